@@ -1,0 +1,23 @@
+-- `numbers::time::seconds_of` meets its contract: the code's 1e9 is the definition's.
+-- Assumes nothing.
+use mathlib.Core.Path.{ap, _∙_}
+use borrow.Author.Needs.{needs}
+use lib.Ieee
+use lib.Ieee.{binary64}
+use Rattle.numbers.specs.Time.{billion, secondsOf}
+use Rattle.numbers.proofs.ReadBack.{read-back}
+use Rattle.numbers.proofs.time.seconds_of.Statement.{statement}
+use Rattle.numbers.proofs.time.seconds_of.Tie as tie
+
+nearest-i64-to-f64-requires : tie.Need-nearest-i64-to-f64-requires
+nearest-i64-to-f64-requires c κs = search needs
+
+returns : tie.Need-returns
+unfolding secondsOf Ieee.ofInt Ieee.ofBits
+returns c =
+    let s = c .before in
+    let rounded = c .nearest-i64-to-f64 .ensures ∙ ap (Ieee.ofInt binary64) (read-back (s .args .ns) (s .fits .ns)) in
+    ap (λ ns. Ieee.div binary64 ns billion) rounded
+
+pub seconds-of-spec : {M : Type 1} → statement M
+seconds-of-spec = tie.close (tie.spec nearest-i64-to-f64-requires returns)

@@ -1,0 +1,70 @@
+-- Instants, spans and seconds (docs/RULES.md, section 6).
+-- Assumes nothing.
+use Prim.Native.Nat.{_^_}
+use mathlib.Core.Bool.{Bool, _&&_, cond}
+use mathlib.Core.List.{[], _∷_}
+use lib.Dec.{leb}
+use lib.IntN.{ℤ, pos, natAbs, _+ℤ_, _-ℤ_}
+use lib.Ieee
+use lib.Ieee.{Float, binary64}
+use Rattle.lists.specs.Outcome.{Outcome, Gives, Refuses}
+use Rattle.numbers.specs.Word.{wordOf}
+use Rattle.numbers.specs.declared.time.TimePoint.{TimePoint}
+use Rattle.numbers.specs.declared.time.Duration.{Duration}
+use Rattle.numbers.specs.declared.time.Instant.{Instant}
+use Rattle.numbers.specs.declared.time.Instant.the-variants as I
+use Rattle.numbers.specs.declared.time.Span.{Span}
+use Rattle.numbers.specs.declared.time.Span.the-variants as S
+
+-- A number of nanoseconds at most 2^53 in size: past it an instant or a span is refused 7 (RULES 4.7).
+unfoldable pub inReach : ℤ → Bool
+inReach ns = leb (natAbs ns) (2 ^ 53)
+
+-- The difference of two instants is a span, and nothing else (RULES 6.4).
+unfoldable pub spanBetween : TimePoint → TimePoint → Span
+spanBetween earlier later =
+    cond (inReach (later .0) && (inReach (earlier .0) && inReach (later .0 -ℤ earlier .0)))
+    (S.Of (record { 0 = later .0 -ℤ earlier .0 }))
+    S.Strayed
+
+-- An instant and a span make an instant (RULES 6.4).
+unfoldable pub instantAfter : TimePoint → Duration → Instant
+instantAfter t d =
+    cond (inReach (t .0) && (inReach (d .0) && inReach (t .0 +ℤ d .0)))
+    (I.At (record { 0 = t .0 +ℤ d .0 }))
+    I.Strayed
+
+-- 1e9, exactly.
+abbrev pub billion : Float
+billion = Ieee.ofInt binary64 (pos 1000000000)
+
+-- 2^53, exactly.
+abbrev pub reach : Float
+reach = Ieee.ofInt binary64 (pos (2 ^ 53))
+
+-- Seconds: the nanoseconds as a double, divided by 1e9 (RULES 6.2).
+unfoldable pub secondsOf : ℤ → Float
+secondsOf ns = Ieee.div binary64 (Ieee.ofInt binary64 ns) billion
+
+-- Nanoseconds of seconds: one product with 1e9, cut toward zero; refused 7 for NaN or past 2^53 in size (RULES 6.3, 4.7).
+unfoldable pub spanOfSeconds : Float → Span
+spanOfSeconds s =
+    let p = Ieee.mul binary64 s billion in
+    cond (Ieee.le (Ieee.neg reach) p && Ieee.le p reach) (S.Of (record { 0 = Ieee.toSigned 63 p })) S.Strayed
+
+-- The instant that many seconds after the start, by the same rule (RULES 6.3).
+unfoldable pub instantOfSeconds : Float → Instant
+instantOfSeconds s = fromStart (spanOfSeconds s)
+  where
+    fromStart : Span → Instant
+    fromStart (S.Of d) = I.At (record { 0 = d .0 })
+    fromStart S.Strayed = I.Strayed
+
+-- The number and the word of each case (RULES 4.7).
+abbrev pub spanOutcome : Span → Outcome
+spanOutcome (S.Of d) = Gives (wordOf (d .0) ∷ [])
+spanOutcome S.Strayed = Refuses 7
+
+abbrev pub instantOutcome : Instant → Outcome
+instantOutcome (I.At t) = Gives (wordOf (t .0) ∷ [])
+instantOutcome I.Strayed = Refuses 7

@@ -1,0 +1,3 @@
+// Numbers: the two kinds of time, and numbers as the words that carry them.
+pub mod time;
+pub mod word;

@@ -1,0 +1,119 @@
+// Instants and spans: two kinds of whole nanoseconds that do not mix (docs/RULES.md, section 6).
+ghost use mathlib.Core.Path.{_≡_};
+ghost use Rattle.numbers.specs.Time.{inReach, spanBetween, instantAfter, secondsOf, spanOfSeconds, instantOfSeconds};
+
+// An instant: nanoseconds since the start.
+pub struct TimePoint(pub i64);
+
+// A span: nanoseconds from one instant to another.
+pub struct Duration(pub i64);
+
+// An instant, or refusal 7.
+pub enum Instant {
+    At(TimePoint),
+    Strayed,
+}
+
+// A span, or refusal 7.
+pub enum Span {
+    Of(Duration),
+    Strayed,
+}
+
+// Whether a number of nanoseconds is at most 2^53 in size.
+fn in_reach(ns: i64) -> bool
+    ensures { λ r. ⌜ r ≡ inReach ns ⌝ }
+{
+    if ns < -9007199254740992 {
+        return false;
+    }
+    if ns > 9007199254740992 {
+        return false;
+    }
+    true
+}
+
+// The seconds of a number of nanoseconds: one rounding to a double, one for the division.
+fn seconds_of(ns: i64) -> f64
+    ensures { λ r. ⌜ r ≡ secondsOf ns ⌝ }
+{
+    std::num::nearest_i64_to_f64(ns) / 1e9
+}
+
+impl TimePoint {
+    // The span from an earlier instant to this one; below zero where `earlier` is the later.
+    pub fn since(self, earlier: TimePoint) -> Span
+        ensures { λ r. ⌜ r ≡ spanBetween earlier self ⌝ }
+    {
+        let x = self.0;
+        let y = earlier.0;
+        if !in_reach(x) {
+            return Span::Strayed;
+        }
+        if !in_reach(y) {
+            return Span::Strayed;
+        }
+        let d = x - y;
+        if !in_reach(d) {
+            return Span::Strayed;
+        }
+        Span::Of(Duration(d))
+    }
+
+    // The instant a span after this one.
+    pub fn plus(self, d: Duration) -> Instant
+        ensures { λ r. ⌜ r ≡ instantAfter self d ⌝ }
+    {
+        let x = self.0;
+        let y = d.0;
+        if !in_reach(x) {
+            return Instant::Strayed;
+        }
+        if !in_reach(y) {
+            return Instant::Strayed;
+        }
+        let t = x + y;
+        if !in_reach(t) {
+            return Instant::Strayed;
+        }
+        Instant::At(TimePoint(t))
+    }
+
+    pub fn as_secs_f64(self) -> f64
+        ensures { λ r. ⌜ r ≡ secondsOf (self .0) ⌝ }
+    {
+        seconds_of(self.0)
+    }
+
+    // The instant that many seconds after the start.
+    pub fn from_secs_f64(seconds: f64) -> Instant
+        ensures { λ r. ⌜ r ≡ instantOfSeconds seconds ⌝ }
+    {
+        let s = Duration::from_secs_f64(seconds);
+        let Span::Of(d) = s else {
+            return Instant::Strayed;
+        };
+        Instant::At(TimePoint(d.0))
+    }
+}
+
+impl Duration {
+    pub fn as_secs_f64(self) -> f64
+        ensures { λ r. ⌜ r ≡ secondsOf (self .0) ⌝ }
+    {
+        seconds_of(self.0)
+    }
+
+    // The nanoseconds of a number of seconds: one product, cut toward zero.
+    pub fn from_secs_f64(seconds: f64) -> Span
+        ensures { λ r. ⌜ r ≡ spanOfSeconds seconds ⌝ }
+    {
+        let p = seconds * 1e9;
+        if p >= -9007199254740992.0 {
+            if p <= 9007199254740992.0 {
+                return Span::Of(Duration(std::num::truncating_f64_to_i64(p)));
+            }
+        }
+        Span::Strayed
+    }
+}

@@ -1,0 +1,66 @@
+//! What a comparison ran, and where the two sides differed.
+
+use crate::room::Handed;
+use std::collections::BTreeMap;
+use std::fmt;
+
+/// How many differences are told in full.
+const TOLD: usize = 10;
+
+#[derive(Default)]
+pub struct Report {
+    ends: BTreeMap<&'static str, BTreeMap<u64, usize>>,
+    differing: usize,
+    told: Vec<String>,
+}
+
+impl Report {
+    /// One call, by what it handed over and what it was to hand over.
+    pub fn add(
+        &mut self,
+        call: &'static str,
+        handed: &Handed,
+        expected: &Handed,
+        about: impl FnOnce() -> String,
+    ) {
+        *self
+            .ends
+            .entry(call)
+            .or_default()
+            .entry(expected.number)
+            .or_default() += 1;
+        if handed == expected {
+            return;
+        }
+        self.differing += 1;
+        if self.told.len() < TOLD {
+            self.told.push(format!(
+                "{}: handed {handed:x?}, expected {expected:x?}",
+                about()
+            ));
+        }
+    }
+
+    pub fn differing(&self) -> usize {
+        self.differing
+    }
+}
+
+impl fmt::Display for Report {
+    fn fmt(&self, f: &mut fmt::Formatter<'_>) -> fmt::Result {
+        for (call, ends) in &self.ends {
+            let all: usize = ends.values().sum();
+            write!(f, "  {call}: {all} calls")?;
+            for (number, count) in ends {
+                match number {
+                    0 => write!(f, ", answered {count}")?,
+                    n => write!(f, ", refused {n} {count}")?,
+                }
+            }
+            writeln!(f)?;
+        }
+        self.told
+            .iter()
+            .try_for_each(|told| writeln!(f, "  DIFFERS {told}"))
+    }
+}

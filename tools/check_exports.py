@@ -1,0 +1,117 @@
+#!/usr/bin/env python3
+"""Holds the three places that declare the calls for C and Rust to one another.
+
+The Rattle source (crates/exports/src) decides; include/igelbert.h and the Rust declarations in
+oracle/compare/src/proved.rs must name the same functions with the same parameters. No compiler
+sees more than one of them, and a call by a wrong declaration would go wrong in silence.
+"""
+
+import argparse
+import pathlib
+import re
+import sys
+
+# A Rattle type, and what stands for it in C and in Rust: a slice is a pointer and a length.
+NUMBERS = {
+    "i64": ("int64_t", "i64"),
+    "u64": ("uint64_t", "u64"),
+    "f64": ("double", "f64"),
+    "usize": ("size_t", "usize"),
+}
+
+
+class Bad(Exception):
+    """A declaration that this tool does not understand."""
+
+
+def parameters(text):
+    return [p.strip() for p in re.sub(r"\s+", " ", text).split(",") if p.strip()]
+
+
+def lowered(name, kind):
+    """The C and the Rust parameters of one Rattle parameter."""
+    if kind in NUMBERS:
+        c, rust = NUMBERS[kind]
+        return [(f"{c} {name}", f"{name}: {rust}")]
+    lent = re.fullmatch(r"&(mut )?\[(\w+)\]", kind)
+    if not lent or lent[2] not in NUMBERS:
+        raise Bad(f"the type {kind} of {name}")
+    c, rust = NUMBERS[lent[2]]
+    const, pointer = ("", "*mut") if lent[1] else ("const ", "*const")
+    return [
+        (f"{const}{c} *{name}", f"{name}: {pointer} {rust}"),
+        (f"size_t {name}_len", f"{name}_len: usize"),
+    ]
+
+
+def from_rattle(text):
+    """The functions of a Rattle source: name -> (C prototype, Rust declaration)."""
+    found = {}
+    pattern = r'pub extern "C" fn (\w+)\s*\(([^)]*)\)\s*->\s*(\w+)'
+    for name, inside, result in re.findall(pattern, text):
+        pairs = [p.split(": ", 1) for p in parameters(inside)]
+        lowered_all = [low for n, kind in pairs for low in lowered(n, kind)]
+        c, rust = NUMBERS[result]
+        found[name] = (
+            f"{c} {name}({', '.join(low[0] for low in lowered_all)})",
+            f"fn {name}({', '.join(low[1] for low in lowered_all)}) -> {rust}",
+        )
+    return found
+
+
+def from_header(text):
+    text = re.sub(r"/\*.*?\*/", "", text, flags=re.S)
+    found = {}
+    for result, name, inside in re.findall(r"(\w+) (igelbert_\w+)\s*\(([^)]*)\);", text):
+        found[name] = f"{result} {name}({', '.join(parameters(inside))})"
+    return found
+
+
+def from_rust(text):
+    found = {}
+    block = re.search(r'extern "C" \{(.*?)\n\}', text, re.S)
+    for name, inside, result in re.findall(
+        r"fn (igelbert_\w+)\s*\(([^)]*)\)\s*->\s*(\w+);", block[1] if block else ""
+    ):
+        found[name] = f"fn {name}({', '.join(parameters(inside))}) -> {result}"
+    return found
+
+
+def complaints(rattle, header, rust):
+    """What is not the same in the three places."""
+    for place, declared, index in (("include/igelbert.h", header, 0), ("proved.rs", rust, 1)):
+        for name in sorted(rattle.keys() | declared.keys()):
+            want, have = rattle.get(name, (None, None))[index], declared.get(name)
+            if want is None:
+                yield f"{place}: {name} is no function of crates/exports"
+            elif have is None:
+                yield f"{place}: {name} is missing: {want}"
+            elif have != want:
+                yield f"{place}: {have}\n    should be: {want}"
+    for name in sorted(rattle):
+        if not name.startswith("igelbert_"):
+            yield f"crates/exports: {name} does not begin with igelbert_"
+
+
+def main():
+    parser = argparse.ArgumentParser(description=__doc__)
+    parser.add_argument("--root", type=pathlib.Path, default=pathlib.Path(__file__).parents[1])
+    root = parser.parse_args().root
+    rattle = {}
+    try:
+        for file in sorted((root / "crates/exports/src").glob("**/*.rt")):
+            rattle |= from_rattle(file.read_text())
+        header = from_header((root / "include/igelbert.h").read_text())
+        rust = from_rust((root / "oracle/compare/src/proved.rs").read_text())
+    except (Bad, OSError) as why:
+        sys.exit(f"check_exports: {why}")
+    found = list(complaints(rattle, header, rust))
+    if not rattle:
+        found.append("crates/exports/src has no exported function")
+    if found:
+        sys.exit("\n".join(f"check_exports: {line}" for line in found))
+    print(f"exports agree: {len(rattle)} functions in three places")
+
+
+if __name__ == "__main__":
+    main()
