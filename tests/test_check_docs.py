@@ -46,6 +46,8 @@ ROWS = {
     "D1a": "| D1a | in time | by form | by form | by form |",
 }
 ANTT = "-- One (RULES 1.1, 2.1 and 2.2).\none : N\ntwo-halves : N\n"
+DIFFERENCES = "| No. | When | Run by |\n|---|---|---|\n| 1 | ever | `it_differs` |\n"
+TEST = "#[test]\nfn it_differs() {}\n"
 CODE = "// (docs/RULES.md, 1.1, 1.2\n// and 2.1), (docs/RULES.md, section 2), RULES D1a.\nfn give() {}\n"
 
 
@@ -58,6 +60,8 @@ class CheckDocs(unittest.TestCase):
         self.cover(ROWS)
         self.write("crates/a/specs/A.antt", ANTT)
         self.write("crates/a/src/lib.rt", CODE)
+        self.write("docs/DIFFERENCES.md", DIFFERENCES)
+        self.write("oracle/planner/tests/t.rs", TEST)
 
     def write(self, name, text):
         file = self.root / name
@@ -234,6 +238,20 @@ class CheckDocs(unittest.TestCase):
 
     def test_other_numbers_are_no_citations(self):
         self.write("docs/MORE.md", "Rules of 0.5 m, and 9.9 s. THE RULES, 300 of them.\n")
+        self.assert_only()
+
+    # (f) what runs a difference
+
+    def test_a_difference_that_no_test_runs(self):
+        self.write("docs/DIFFERENCES.md", DIFFERENCES.replace("it_differs", "it_does_not"))
+        self.assert_only("docs/DIFFERENCES.md:3: `it_does_not` is no test of the oracle, and no file")
+
+    def test_a_difference_that_names_nothing(self):
+        self.write("docs/DIFFERENCES.md", DIFFERENCES.replace("`it_differs`", "by reading"))
+        self.assert_only("docs/DIFFERENCES.md:3: the row names nothing that runs it")
+
+    def test_a_difference_that_a_file_runs(self):
+        self.write("docs/DIFFERENCES.md", DIFFERENCES.replace("it_differs", "oracle/planner/tests/t.rs"))
         self.assert_only()
 
 

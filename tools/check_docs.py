@@ -1,5 +1,5 @@
 #!/usr/bin/env python3
-"""Holds docs/RULES.md, docs/COVERAGE.md and every citation of a rule against one another.
+"""Holds docs/RULES.md, docs/COVERAGE.md, docs/DIFFERENCES.md and every citation of a rule against one another.
 
 A rule is a line of RULES.md that begins with its bold number (`**4.7 Strayed.**`) or a table row
 whose first cell is the number (`| 4.7 | Strayed | .. |`). A demand is numbered D1, D3a and so on.
@@ -14,6 +14,8 @@ from typing import NamedTuple
 
 RULES = "docs/RULES.md"
 COVERAGE = "docs/COVERAGE.md"
+DIFFERENCES = "docs/DIFFERENCES.md"
+ORACLE_TESTS = "oracle/planner/tests/*.rs"
 CITING = ("crates/**/*.rt", "crates/**/*.antt", "oracle/**/*.rs", "include/*.h", "docs/*.md")
 COLUMNS = ("Rule", "What", "Defined", "Proved", "Run")
 
@@ -145,6 +147,25 @@ def check_paths(text, root, faults):
                     faults.append(Fault(COVERAGE, number, f"`{name}` does not occur in {path}"))
 
 
+def check_differences(root, faults):
+    """Each test that DIFFERENCES.md names in the last cell of a row is a test of the oracle."""
+    tests = {
+        name
+        for file in root.glob(ORACLE_TESTS)
+        for name in re.findall(r"#\[test\]\s*fn (\w+)", file.read_text(encoding="utf-8"))
+    }
+    for number, line in plain_lines((root / DIFFERENCES).read_text(encoding="utf-8")):
+        if not re.match(r"\| \d", line):
+            continue
+        last = cells_of(line)[-1]
+        named = re.findall(r"`([^`]+)`", last)
+        if not named:
+            faults.append(Fault(DIFFERENCES, number, "the row names nothing that runs it"))
+        for name in named:
+            if name not in tests and not (root / name).is_file():
+                faults.append(Fault(DIFFERENCES, number, f"`{name}` is no test of the oracle, and no file"))
+
+
 def check_citations(root, rules, sections, faults):
     """Each citation in code, definitions, oracle, header and papers names a rule or a section that there is."""
     count = 0
@@ -167,13 +188,14 @@ def check_citations(root, rules, sections, faults):
 def check(root):
     """The faults of the tree under root, and its counts."""
     faults = []
-    missing = [name for name in (RULES, COVERAGE) if not (root / name).is_file()]
+    missing = [name for name in (RULES, COVERAGE, DIFFERENCES) if not (root / name).is_file()]
     if missing:
         return [Fault(name, 1, "the file is missing") for name in missing], Counts(0, 0, 0, 0)
     coverage = (root / COVERAGE).read_text(encoding="utf-8")
     rules, sections = read_rules((root / RULES).read_text(encoding="utf-8"), faults)
     rows, open_rows = read_rows(coverage, rules, faults)
     check_paths(coverage, root, faults)
+    check_differences(root, faults)
     citations = check_citations(root, rules, sections, faults)
     return sorted(faults), Counts(len(rules), len(rows), open_rows, citations)
 

@@ -1,0 +1,68 @@
+#!/usr/bin/env python3
+"""Prints how large each crate is and how long its proof took, as a table for docs/FIGURES.md.
+
+Lines are those that are neither blank nor a comment alone. Seconds come from the output of `rt ci`
+or `rt prove`, where a file with it is named: tools/figures.py [LOG]
+"""
+
+import argparse
+import pathlib
+import re
+import sys
+
+ROOT = pathlib.Path(__file__).parents[1]
+
+
+def lines(files, comment):
+    """How many lines of the files say something."""
+    texts = (line.strip() for file in files for line in file.read_text().splitlines())
+    return sum(1 for line in texts if line and not line.startswith(comment))
+
+
+def crates(root):
+    """The crates of crates.txt, in its order."""
+    for line in (root / "crates.txt").read_text().splitlines():
+        name = line.split("#")[0].split(":")[0].strip()
+        if name:
+            yield name
+
+
+def sizes(crate):
+    """Lines of code, definitions, laws and proofs of functions, and the edits."""
+    proofs = list(crate.glob("proofs/**/*.antt"))
+    of_functions = [f for f in proofs if f.name == "Proof.antt"]
+    laws = [f for f in proofs if f.name != "Proof.antt"]
+    return (
+        lines(crate.glob("src/**/*.rt"), "//"),
+        lines(crate.glob("specs/**/*.antt"), "--"),
+        lines(laws, "--"),
+        lines(of_functions, "--"),
+        len(list(crate.glob("must-fail/*.edit"))),
+    )
+
+
+def seconds(log):
+    """Crate -> seconds, from what rt printed."""
+    found = re.findall(r"^rt: (\w+) proved \((\d+) s\)", log, re.M)
+    return {name: int(taken) for name, taken in found}
+
+
+def main():
+    parser = argparse.ArgumentParser(description=__doc__)
+    parser.add_argument("log", nargs="?", type=pathlib.Path, help="what `rt ci` printed")
+    asked = parser.parse_args()
+    try:
+        took = seconds(asked.log.read_text()) if asked.log else {}
+        rows = [(name, *sizes(ROOT / "crates" / name)) for name in crates(ROOT)]
+    except OSError as why:
+        sys.exit(f"figures: {why}")
+    print("| Crate | Code | Definitions | Laws | Proofs of functions | Edits | Seconds |")
+    print("|---|---|---|---|---|---|---|")
+    for name, *counts in rows:
+        print(f"| {name} | {' | '.join(map(str, counts))} | {took.get(name, '')} |")
+    totals = [sum(column) for column in zip(*(row[1:] for row in rows))]
+    print(f"| all | {' | '.join(map(str, totals))} | {sum(took.values()) or ''} |")
+
+
+if __name__ == "__main__":
+    main()
