@@ -1,0 +1,31 @@
+-- What a test of the code tells, on the way that was taken: `passed (c .if1 .taken)`, `failed (c .if1 .left)`,
+-- and `stayed (le x y) (c .if1 .left)` past an `if !(x <= y) { return .. }`.
+-- Assumes nothing.
+use mathlib.Core.Path.{_≡_, sym, subst}
+use mathlib.Core.Logic.{_⊎_, inl, inr}
+use mathlib.Core.Bool.{Bool, true, false, not, _||_, true≢false}
+use lib.Dec.{T}
+pub use lib.Ieee.Bits.{is-true, is-false}
+
+pub passed : {b : Bool} → b ≡ true → T b
+passed e = subst T (sym e) tt
+
+pub failed : {b : Bool} → b ≡ false → T (not b)
+failed e = subst (λ (b : Bool). T (not b)) (sym e) tt
+
+pub stayed : (b : Bool) → not b ≡ false → T b
+stayed true e = tt
+stayed false e = absurd (true≢false e)
+
+-- One of two tests.
+pub or-l : (a b : Bool) → T a → T (a || b)
+or-l true b t = tt
+or-l false b t = absurd t
+
+pub or-r : (a b : Bool) → T b → T (a || b)
+or-r true b t = tt
+or-r false b t = t
+
+pub or-split : (a b : Bool) → T (a || b) → T a ⊎ T b
+or-split true b t = inl tt
+or-split false b t = inr t
