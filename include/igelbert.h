@@ -18,6 +18,10 @@
 extern "C" {
 #endif
 
+/* The root of x, rounded to the nearest double, as one word (docs/RULES.md, 6.5). A zero is its own
+ * root. Refused 1: NaN, an infinity, or below zero. */
+uint64_t igelbert_square_root(double x, uint64_t *out, size_t out_len);
+
 /* Time: instants and spans in nanoseconds (docs/RULES.md, 6.1 to 6.4). One word each. */
 
 /* The span from the instant `earlier` to the instant `later`. Refused 7: an instant or the span is

@@ -1,5 +1,10 @@
 pub mod ReadBack
 pub mod Reach
-mod Between
+mod Operands
+pub mod Cut
 pub mod Answers
 pub mod Words
+pub mod Seconds
+pub mod Width
+pub mod Integers
+pub mod Order

@@ -1,7 +1,7 @@
 -- Numbers in reach: the two comparisons that tell them, and that their sums and differences fit 64 bits.
 -- Assumes nothing.
-use mathlib.Core.Path.{_≡_, refl, sym, ap, _∙_}
-use mathlib.Core.Bool.{Bool, true, false, not, _&&_, cond, and-true}
+use mathlib.Core.Path.{_≡_, refl, sym, _∙_}
+use mathlib.Core.Bool.{Bool, true, false, not, _&&_, cond, and-true, false≢true}
 use Prim.Native.Nat.{ℕ, zero, suc, _+_, _-_, _^_, _≤_, _<_}
 use native.Mathlib.Omega.{arith}
 use borrow.Author.Tests.{ltb-true, ltb-false, leb-true, le-leb, lt-leb}
@@ -11,7 +11,6 @@ use lib.Signed.{ltZ}
 use mir.Syntax.{w64}
 use mir.Val.{SFits}
 use Rattle.numbers.specs.Time.{inReach}
-use Rattle.numbers.proofs.ReadBack.{read, read-back}
 
 at-most : (a b : ℕ) → leb a b ≡ not (ltb b a)
 at-most a b = by (ltb b a) refl
@@ -52,13 +51,16 @@ size : (z : ℤ) → inReach z ≡ true → natAbs z ≤ 2 ^ 53
 unfolding inReach
 size z = leb-true (natAbs z) (2 ^ 53)
 
-pub sum-fits : (a b : ℤ) → inReach a ≡ true → inReach b ≡ true → SFits w64 (a +ℤ b)
-sum-fits a b p q = fits (a +ℤ b) (omega (arith, size a p, size b q, size-sum a b))
+pub both : (a b : Bool) → (a && b) ≡ true → (a ≡ true) × (b ≡ true)
+both true b e = (refl, e)
+both false b e = absurd (false≢true e)
 
-pub difference-fits : (a b : ℤ) → inReach a ≡ true → inReach b ≡ true → SFits w64 (a -ℤ b)
-difference-fits a b p q =
-    fits (a -ℤ b) (omega (arith, size a p, size b q, size-sum a (negℤ b), size-neg b))
+pub sum-fits : (a b : ℤ) → (inReach a && inReach b) ≡ true → SFits w64 (a +ℤ b)
+sum-fits a b h =
+    let held = both (inReach a) (inReach b) h in
+    fits (a +ℤ b) (omega (arith, size a (held .0), size b (held .1), size-sum a b))
 
--- What is found of a number as it is read back holds of the number.
-pub told : {b : Bool} (z : ℤ) → SFits w64 z → b ≡ inReach (read z) → inReach z ≡ b
-told z h e = sym (e ∙ ap inReach (read-back z h))
+pub difference-fits : (a b : ℤ) → (inReach a && inReach b) ≡ true → SFits w64 (a -ℤ b)
+difference-fits a b h =
+    let held = both (inReach a) (inReach b) h in
+    fits (a -ℤ b) (omega (arith, size a (held .0), size b (held .1), size-sum a (negℤ b), size-neg b))

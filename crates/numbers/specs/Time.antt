@@ -5,6 +5,7 @@ use mathlib.Core.Bool.{Bool, _&&_, cond}
 use mathlib.Core.List.{[], _∷_}
 use lib.Dec.{leb}
 use lib.IntN.{ℤ, pos, natAbs, _+ℤ_, _-ℤ_}
+use lib.Signed.{ltZ}
 use lib.Ieee
 use lib.Ieee.{Float, binary64}
 use Rattle.lists.specs.Outcome.{Outcome, Gives, Refuses}
@@ -33,6 +34,13 @@ instantAfter t d =
     cond (inReach (t .0) && (inReach (d .0) && inReach (t .0 +ℤ d .0)))
     (I.At (record { 0 = t .0 +ℤ d .0 }))
     I.Strayed
+
+-- The later and the earlier of two instants, the first where they are one (RULES 6.6).
+unfoldable pub laterOf : TimePoint → TimePoint → TimePoint
+laterOf t u = cond (ltZ (t .0) (u .0)) u t
+
+unfoldable pub earlierOf : TimePoint → TimePoint → TimePoint
+earlierOf t u = cond (ltZ (u .0) (t .0)) u t
 
 -- 1e9, exactly.
 abbrev pub billion : Float

@@ -1,6 +1,8 @@
 // Instants and spans: two kinds of whole nanoseconds that do not mix (docs/RULES.md, section 6).
 ghost use mathlib.Core.Path.{_≡_};
-ghost use Rattle.numbers.specs.Time.{inReach, spanBetween, instantAfter, secondsOf, spanOfSeconds, instantOfSeconds};
+ghost use mathlib.Core.Bool.{_&&_};
+ghost use lib.Signed.{ltZ};
+ghost use Rattle.numbers.specs.Time.{inReach, spanBetween, instantAfter, laterOf, earlierOf, secondsOf, spanOfSeconds, instantOfSeconds};
 
 // An instant: nanoseconds since the start.
 pub struct TimePoint(pub i64);
@@ -33,6 +35,16 @@ fn in_reach(ns: i64) -> bool
     true
 }
 
+// Whether both of two numbers are, as an operation on times asks first.
+fn both_in_reach(x: i64, y: i64) -> bool
+    ensures { λ r. ⌜ r ≡ (inReach x && inReach y) ⌝ }
+{
+    if !in_reach(x) {
+        return false;
+    }
+    in_reach(y)
+}
+
 // The seconds of a number of nanoseconds: one rounding to a double, one for the division.
 fn seconds_of(ns: i64) -> f64
     ensures { λ r. ⌜ r ≡ secondsOf ns ⌝ }
@@ -47,10 +59,7 @@ impl TimePoint {
     {
         let x = self.0;
         let y = earlier.0;
-        if !in_reach(x) {
-            return Span::Strayed;
-        }
-        if !in_reach(y) {
+        if !both_in_reach(x, y) {
             return Span::Strayed;
         }
         let d = x - y;
@@ -66,10 +75,7 @@ impl TimePoint {
     {
         let x = self.0;
         let y = d.0;
-        if !in_reach(x) {
-            return Instant::Strayed;
-        }
-        if !in_reach(y) {
+        if !both_in_reach(x, y) {
             return Instant::Strayed;
         }
         let t = x + y;
@@ -77,6 +83,29 @@ impl TimePoint {
             return Instant::Strayed;
         }
         Instant::At(TimePoint(t))
+    }
+
+    // Whether this instant comes before another.
+    pub fn is_before(self, other: TimePoint) -> bool
+        ensures { λ r. ⌜ r ≡ ltZ (self .0) (other .0) ⌝ }
+    {
+        let t = self.0;
+        let u = other.0;
+        t < u
+    }
+
+    // The later of two instants.
+    pub fn max(self, other: TimePoint) -> TimePoint
+        ensures { λ r. ⌜ r ≡ laterOf self other ⌝ }
+    {
+        if self.is_before(other) { other } else { self }
+    }
+
+    // The earlier of two instants.
+    pub fn min(self, other: TimePoint) -> TimePoint
+        ensures { λ r. ⌜ r ≡ earlierOf self other ⌝ }
+    {
+        if other.is_before(self) { other } else { self }
     }
 
     pub fn as_secs_f64(self) -> f64
@@ -98,6 +127,15 @@ impl TimePoint {
 }
 
 impl Duration {
+    // Whether this span is below another, by the sign too.
+    pub fn is_below(self, other: Duration) -> bool
+        ensures { λ r. ⌜ r ≡ ltZ (self .0) (other .0) ⌝ }
+    {
+        let d = self.0;
+        let e = other.0;
+        d < e
+    }
+
     pub fn as_secs_f64(self) -> f64
         ensures { λ r. ⌜ r ≡ secondsOf (self .0) ⌝ }
     {

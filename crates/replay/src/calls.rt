@@ -6,7 +6,7 @@ use exports::times;
 use numbers::word;
 ghost use mathlib.Core.Path.{_≡_};
 ghost use Rattle.lists.specs.Outcome.{Handed};
-ghost use Rattle.replay.specs.Listed.{outcomeOf, asListed};
+ghost use Rattle.replay.specs.Listed.{outcomeOf, asListed, verdictOf};
 
 // The first line that is not as listed, or how many lines there are.
 pub enum Verdict {
@@ -53,7 +53,9 @@ fn is_as_listed(a: Answer) -> bool
 }
 
 // Goes through a list line by line, up to the first line that is malformed or differs.
-pub fn replay(s: &[u8]) -> Verdict {
+pub fn replay(s: &[u8]) -> Verdict
+    ensures { λ r. ⌜ r ≡ verdictOf (now (s .entry)) ⌝ }
+{
     let mut at = 0;
     let mut lines = 0u64;
     while at < s.len() {

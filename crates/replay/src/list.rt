@@ -1,6 +1,8 @@
 // A list of answers, one to a line: five words with a space between them, and a newline.
 use crate::hex;
 use crate::hex::Word;
+ghost use mathlib.Core.Path.{_≡_};
+ghost use Rattle.replay.specs.Line.{separated, lineOf};
 
 // A call, what it was called with, and its answer: the number handed back, and the first word of the room.
 pub struct Answer {
@@ -17,7 +19,9 @@ pub enum Line {
 }
 
 // Whether a space stands after each word of a line but the last, and a newline after that.
-fn is_separated(line: &[u8]) -> bool {
+fn is_separated(line: &[u8]) -> bool
+    ensures { λ r. ⌜ r ≡ separated (now (line .entry)) ⌝ }
+{
     if line.len() != 85 {
         return false;
     }
@@ -29,7 +33,9 @@ fn is_separated(line: &[u8]) -> bool {
 }
 
 // The answer of a line, which has to name one of the six calls.
-pub fn answer_of(line: &[u8]) -> Line {
+pub fn answer_of(line: &[u8]) -> Line
+    ensures { λ r. ⌜ r ≡ lineOf (now (line .entry)) ⌝ }
+{
     if !is_separated(line) {
         return Line::Malformed;
     }

@@ -1,10 +1,6 @@
-//! Runs the proved library and the Rust on the same inputs, in one process, layer by layer.
+//! Compares the layers that are asked for, or all, and says where the two sides differ.
 
-mod layers;
-mod proved;
-mod report;
-mod room;
-
+use compare::layers;
 use pico_args::Arguments;
 use std::process::ExitCode;
 

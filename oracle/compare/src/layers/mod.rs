@@ -1,5 +1,6 @@
 //! One file for each layer that is compared.
 
+pub mod roots;
 pub mod times;
 
 use crate::report::Report;
@@ -10,7 +11,13 @@ pub struct Layer {
     pub compare: fn(seed: u64, count: u64) -> Report,
 }
 
-pub const ALL: &[Layer] = &[Layer {
-    name: "times",
-    compare: times::compare,
-}];
+pub const ALL: &[Layer] = &[
+    Layer {
+        name: "roots",
+        compare: roots::compare,
+    },
+    Layer {
+        name: "times",
+        compare: times::compare,
+    },
+];

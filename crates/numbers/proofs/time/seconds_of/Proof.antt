@@ -1,11 +1,11 @@
 -- `numbers::time::seconds_of` meets its contract: the code's 1e9 is the definition's.
 -- Assumes nothing.
-use mathlib.Core.Path.{ap, _∙_}
+use mathlib.Core.Path.{ap}
 use borrow.Author.Needs.{needs}
 use lib.Ieee
 use lib.Ieee.{binary64}
 use Rattle.numbers.specs.Time.{billion, secondsOf}
-use Rattle.numbers.proofs.ReadBack.{read-back}
+use Rattle.numbers.proofs.ReadBack.{found-of}
 use Rattle.numbers.proofs.time.seconds_of.Statement.{statement}
 use Rattle.numbers.proofs.time.seconds_of.Tie as tie
 
@@ -16,7 +16,7 @@ returns : tie.Need-returns
 unfolding secondsOf Ieee.ofInt Ieee.ofBits
 returns c =
     let s = c .before in
-    let rounded = c .nearest-i64-to-f64 .ensures ∙ ap (Ieee.ofInt binary64) (read-back (s .args .ns) (s .fits .ns)) in
+    let rounded = found-of (Ieee.ofInt binary64) (s .args .ns) (s .fits .ns) (c .nearest-i64-to-f64 .ensures) in
     ap (λ ns. Ieee.div binary64 ns billion) rounded
 
 pub seconds-of-spec : {M : Type 1} → statement M

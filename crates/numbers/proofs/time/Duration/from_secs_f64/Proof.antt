@@ -3,34 +3,36 @@
 use mathlib.Core.Path.{_≡_}
 use mathlib.Core.Bool.{true, false}
 use lib.Ieee
-use lib.Ieee.{binary64}
 use lib.Ieee.Casts.{toSigned-in}
-use Rattle.numbers.specs.Time.{billion, reach, spanOfSeconds}
-use Rattle.numbers.proofs.Between.{can-be-cut}
+use Rattle.numbers.specs.Time.{reach, spanOfSeconds}
+use Rattle.floats.proofs.Tests.{passed}
+use Rattle.floats.proofs.Bounds.{within-of-bounds}
+use Rattle.numbers.proofs.Cut.{product, can-be-cut}
 use Rattle.numbers.proofs.ReadBack.{read-back}
 use Rattle.numbers.proofs.time.Duration.from_secs_f64.Statement.{statement}
 use Rattle.numbers.proofs.time.Duration.from_secs_f64.Tie as tie
 
 -- The code's two tests, with the doubles that it writes as literals under the names of the definition.
-above : (c : tie.Then1) → Ieee.le (Ieee.neg reach) (Ieee.mul binary64 (c .before .args .seconds) billion) ≡ true
+above : (c : tie.Then1) → Ieee.le (Ieee.neg reach) (product (c .before .args .seconds)) ≡ true
 unfolding Ieee.ofInt Ieee.ofBits
 above c = c .if1 .taken
 
-below : (c : tie.Then2) → Ieee.le (Ieee.mul binary64 (c .before .before .args .seconds) billion) reach ≡ true
+below : (c : tie.Then2) → Ieee.le (product (c .before .before .args .seconds)) reach ≡ true
 unfolding Ieee.ofInt Ieee.ofBits
 below c = c .if2 .taken
 
-past : (c : tie.Else2) → Ieee.le (Ieee.mul binary64 (c .before .before .args .seconds) billion) reach ≡ false
+past : (c : tie.Else2) → Ieee.le (product (c .before .before .args .seconds)) reach ≡ false
 unfolding Ieee.ofInt Ieee.ofBits
 past c = c .if2 .left
 
-short : (c : tie.Else1) → Ieee.le (Ieee.neg reach) (Ieee.mul binary64 (c .before .args .seconds) billion) ≡ false
+short : (c : tie.Else1) → Ieee.le (Ieee.neg reach) (product (c .before .args .seconds)) ≡ false
 unfolding Ieee.ofInt Ieee.ofBits
 short c = c .if1 .left
 
 truncating-f64-to-i64-requires : tie.Need-truncating-f64-to-i64-requires
 unfolding Ieee.ofInt Ieee.ofBits
-truncating-f64-to-i64-requires c κs = can-be-cut _ (above (c .before)) (below c)
+truncating-f64-to-i64-requires c κs =
+    can-be-cut _ (within-of-bounds reach (product (c .before .before .args .seconds)) (passed (above (c .before))) (passed (below c)))
 
 returns : tie.Need-returns
 unfolding spanOfSeconds Ieee.ofInt Ieee.ofBits

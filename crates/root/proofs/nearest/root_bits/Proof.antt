@@ -1,0 +1,63 @@
+-- `root::nearest::root_bits` meets its contract: the number that `whole_root` is given is the widened digits.
+-- Assumes nothing.
+use mathlib.Core.Path.{_≡_}
+use mathlib.Core.Logic.{⊎-elim}
+use Prim.Native.Nat.{_*_, _%_, _^_}
+use native.Mathlib.Omega.{arith}
+use borrow.Author.Needs.{needs}
+use lib.Ieee.{binary64, ofBits}
+use Rattle.root.specs.Digits.{widened}
+use Rattle.root.specs.Root.{units}
+use Rattle.root.proofs.WholeRoot.{whole-small}
+use Rattle.root.proofs.Spelling.{pattern-is}
+use Rattle.root.proofs.nearest.root_bits.Statement.{statement}
+use Rattle.root.proofs.nearest.root_bits.Tie as tie
+
+-- One zero more stands behind the digits where their place is odd.
+given : (c : tie.Joined1) → c .if1 .a * 2 ^ 54 ≡ widened (c .before .digits-of .result .m) (c .before .digits-of .result .j)
+given c =
+    let j = c .before .digits-of .result .j in
+    ⊎-elim
+    (λ w. let one : j % 2 ≡ 1 = omega (arith, w .0 .taken) in rw (w .1, one) (omega arith))
+    (λ w. let none : j % 2 ≡ 0 = omega (arith, w .0 .left) in rw (w .1, none))
+    (c .if1 .came)
+
+digits-of-requires : tie.Need-digits-of-requires
+digits-of-requires c κs = search needs
+
+mul-a : tie.Need-mul-a
+mul-a c = search needs
+
+add-result : tie.Need-add-result
+add-result c = search needs
+
+mul-result : tie.Need-mul-result
+mul-result c = search needs
+
+whole-root-requires : tie.Need-whole-root-requires
+whole-root-requires c κs = ⊎-elim (λ w. omega arith) (λ w. omega arith) (c .if1 .came)
+
+add-result-2 : tie.Need-add-result-2
+add-result-2 c = omega (arith, whole-small 54 (c .before .if1 .a * 2 ^ 54), c .whole-root .ensures)
+
+add-result-3 : tie.Need-add-result-3
+add-result-3 c = omega (arith, whole-small 54 (c .before .if1 .a * 2 ^ 54), c .whole-root .ensures)
+
+returns : tie.Need-returns
+returns c =
+    let X = units (ofBits binary64 (c .before .before .before .args .b)) in
+    let d = c .before .before .digits-of in
+    rw (pattern-is X (d .result .m) (d .result .j) (d .ensures .0), c .whole-root .ensures, given (c .before))
+
+pub root-bits-spec : {M : Type 1} → statement M
+root-bits-spec =
+    tie.close
+    (tie.spec
+    digits-of-requires
+    mul-a
+    add-result
+    mul-result
+    whole-root-requires
+    add-result-2
+    add-result-3
+    returns)

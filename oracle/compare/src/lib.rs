@@ -1,0 +1,6 @@
+//! Runs the proved library and the Rust on the same inputs, in one process, layer by layer.
+
+pub mod layers;
+pub mod proved;
+pub mod report;
+pub mod room;
