@@ -4,6 +4,7 @@ pub mod Fractions
 pub mod Preorder
 pub mod Strict
 pub mod Rounding
+pub mod Exact
 pub mod NotANumber
 pub mod Monotone
 pub mod Signs
