@@ -9,7 +9,8 @@ use crate::motion::{Interpolation, Motion, TimePoint, Trajectory};
 use terms::*;
 
 /// An arrival search that has read the obstacles so often for each leg and obstacle goes round
-/// without end. By demand 3 an answered one reads them at most twice for each, and once more each.
+/// without end. By demand 3 an answered one makes at most L + O + 1 sweeps and lists as many times,
+/// so it reads them at most twice as often.
 const READINGS_EACH: usize = 8;
 
 /// A sawtooth of hints that has converted so many seconds goes on without end.

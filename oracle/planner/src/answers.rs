@@ -27,7 +27,7 @@ const TIMES: [i64; 15] = [
     i64::MIN,
 ];
 
-/// Seconds around every size that matters; the product of the last two straddles 2^53.
+/// Seconds around every size that matters: two pairs have their products at 2^53 and one step past it.
 const SECONDS: [f64; 17] = [
     0.0,
     -0.0,
@@ -60,7 +60,7 @@ pub enum Call {
 }
 
 impl Call {
-    /// The calls that a seed makes, each on every size that matters first.
+    /// The calls that a seed makes, the six taking turns.
     pub fn some(seed: u64, count: u64) -> impl Iterator<Item = Call> {
         (0..count).map(move |n| Call::one(&mut Dice::new(seed, n), n))
     }
