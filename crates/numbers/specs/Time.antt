@@ -68,6 +68,14 @@ instantOfSeconds s = fromStart (spanOfSeconds s)
     fromStart (S.Of d) = I.At (record { 0 = d .0 })
     fromStart S.Strayed = I.Strayed
 
+-- The instant that many seconds after an instant: the seconds turned into a span, and that put after it (RULES 6.3, 6.4).
+unfoldable pub instantAfterSeconds : TimePoint → Float → Instant
+instantAfterSeconds t s = after (spanOfSeconds s)
+  where
+    after : Span → Instant
+    after (S.Of d) = instantAfter t d
+    after S.Strayed = I.Strayed
+
 -- The number and the word of each case (RULES 4.7).
 abbrev pub spanOutcome : Span → Outcome
 spanOutcome (S.Of d) = Gives (wordOf (d .0) ∷ [])

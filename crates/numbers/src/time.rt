@@ -2,7 +2,7 @@
 ghost use mathlib.Core.Path.{_≡_};
 ghost use mathlib.Core.Bool.{_&&_};
 ghost use lib.Signed.{ltZ};
-ghost use Rattle.numbers.specs.Time.{inReach, spanBetween, instantAfter, laterOf, earlierOf, secondsOf, spanOfSeconds, instantOfSeconds};
+ghost use Rattle.numbers.specs.Time.{inReach, spanBetween, instantAfter, laterOf, earlierOf, instantAfterSeconds, secondsOf, spanOfSeconds, instantOfSeconds};
 
 // An instant: nanoseconds since the start.
 pub struct TimePoint(pub i64);
@@ -83,6 +83,17 @@ impl TimePoint {
             return Instant::Strayed;
         }
         Instant::At(TimePoint(t))
+    }
+
+    // The instant a number of seconds after this one.
+    pub fn plus_secs_f64(self, seconds: f64) -> Instant
+        ensures { λ r. ⌜ r ≡ instantAfterSeconds self seconds ⌝ }
+    {
+        let span = Duration::from_secs_f64(seconds);
+        let Span::Of(d) = span else {
+            return Instant::Strayed;
+        };
+        self.plus(d)
     }
 
     // Whether this instant comes before another.

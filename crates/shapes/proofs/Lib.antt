@@ -1,0 +1,4 @@
+mod Found
+pub mod Limits
+pub mod Distance
+pub mod Overlap

@@ -1,0 +1,5 @@
+pub mod Leg
+pub mod Distance
+pub mod Box
+pub mod Domain
+pub mod Asked

@@ -1,0 +1,6 @@
+// What moves on the floor: waypoints and legs, profiles, boxes, and the table of what each number may be.
+pub mod bounding_box;
+pub mod calls;
+pub mod domain;
+pub mod profile;
+pub mod waypoint;
