@@ -40,6 +40,72 @@ uint64_t igelbert_seconds_of_span(int64_t span, uint64_t *out, size_t out_len);
 uint64_t igelbert_instant_of_seconds(double seconds, uint64_t *out, size_t out_len);
 uint64_t igelbert_span_of_seconds(double seconds, uint64_t *out, size_t out_len);
 
+/* Shapes (docs/RULES.md, section 7). A profile is a footprint and a follow buffer; a leg goes from
+ * (x0, y0) at t0 to (x1, y1) at t1, times in nanoseconds. Refused 1: a number outside the table of
+ * the domain (section 3). */
+
+/* How near two carts may stand, that distance times itself, and how far the one stays behind the
+ * other: one double. */
+uint64_t igelbert_critical_distance(double footprint, double follow, double footprint2,
+    double follow2, uint64_t *out, size_t out_len);
+uint64_t igelbert_critical_distance_squared(double footprint, double follow, double footprint2,
+    double follow2, uint64_t *out, size_t out_len);
+uint64_t igelbert_follow_distance(double footprint, double follow, double footprint2,
+    double follow2, uint64_t *out, size_t out_len);
+
+/* The box of a leg of the agent's, grown by the footprint: left, bottom, right, top. Refused 3: the
+ * leg ends before it starts. */
+uint64_t igelbert_box_of_leg(double footprint, double follow, int64_t t0, double x0, double y0,
+    int64_t t1, double x1, double y1, uint64_t *out, size_t out_len);
+
+/* The box of an obstacle's waypoints, grown by its footprint: 1 and the four bounds, or 0 where there
+ * is no waypoint. Refused 2: lists of different lengths, a single waypoint, more than 257, or times
+ * that do not rise. */
+uint64_t igelbert_box_of_obstacle(double footprint, double follow, const int64_t *times,
+    size_t times_len, const double *xs, size_t xs_len, const double *ys, size_t ys_len,
+    uint64_t *out, size_t out_len);
+
+/* Whether two boxes overlap, 1 or 0; boxes that touch do. */
+uint64_t igelbert_boxes_overlap(double left, double bottom, double right, double top, double left2,
+    double bottom2, double right2, double top2, uint64_t *out, size_t out_len);
+
+/* Motion and proximity (docs/RULES.md, sections 8 and 9). Refused 1 as above; 3: the agent's leg
+ * ends before it starts. */
+
+/* Where a leg of the agent's is at t, and how fast it goes: 1, x, y and the velocity's x and y; or 0
+ * where its times do not hold t. */
+uint64_t igelbert_position(int64_t t0, double x0, double y0, int64_t t1, double x1, double y1,
+    int64_t t, uint64_t *out, size_t out_len);
+
+/* When the agent's leg, from 0 to 1, and an obstacle's, from 2 to 3, come within a squared distance
+ * and when they leave it: 0; 1 and the entry; or 2, the entry and the exit. Refused 2: the
+ * obstacle's times do not rise; 5: they creep; 6: their times lie 100,000 ns or more apart. */
+uint64_t igelbert_detect_proximity(double limit, int64_t t0, double x0, double y0, int64_t t1,
+    double x1, double y1, int64_t t2, double x2, double y2, int64_t t3, double x3, double y3,
+    uint64_t *out, size_t out_len);
+
+/* Whether the two are in conflict, 1 or 0, each in the box of its own footprint. Refused as the
+ * proximity of the two is. */
+uint64_t igelbert_have_conflict(double footprint, double follow, int64_t t0, double x0, double y0,
+    int64_t t1, double x1, double y1, double footprint2, double follow2, int64_t t2, double x2,
+    double y2, int64_t t3, double x3, double y3, double limit, uint64_t *out, size_t out_len);
+
+/* When something that goes from (px, py) by (vx, vy) is within a squared distance of (rx, ry): 0, or
+ * 2 and two doubles, in seconds. */
+uint64_t igelbert_stationary_proximity(double rx, double ry, double px, double py, double vx,
+    double vy, double limit, uint64_t *out, size_t out_len);
+
+/* Whether the agent's leg is safe among obstacles, 0, or in conflict, 1. The waypoints of all
+ * obstacles stand one after another in `times`, `xs` and `ys`; `starts` says for each obstacle where
+ * its own begin; `numbers` has three for each: footprint, follow buffer, conflict distance squared.
+ * Refused 2: lists that do not fit one another, more than 32 obstacles or 256 legs, a single
+ * waypoint, times that do not rise; 5 and 6 as the first leg's that meets them. */
+uint64_t igelbert_is_safe_segment(double footprint, double follow, int64_t t0, double x0, double y0,
+    int64_t t1, double x1, double y1, const size_t *starts, size_t starts_len,
+    const double *numbers, size_t numbers_len, const int64_t *times, size_t times_len,
+    const double *xs, size_t xs_len, const double *ys, size_t ys_len, uint64_t *out,
+    size_t out_len);
+
 #ifdef __cplusplus
 }
 #endif

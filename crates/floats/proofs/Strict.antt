@@ -1,12 +1,13 @@
 -- `lt` is the strict part of `le`: of two floats that are no NaN, x is below y exactly where y is not at most x.
 -- Assumes nothing.
+use mathlib.Core.Path.{_≡_}
 use mathlib.Core.Logic.{inl, inr}
 use native.Mathlib.Nat.{lt-of-not-le, not-le-of-lt}
 use mathlib.Core.Bool.{Bool, true, false, not}
-use lib.Dec.{T, T-not}
+use lib.Dec.{T, T-not, not-T}
 use lib.Ieee.{Float, nan, inf, fin, lt, eq, le, isNan}
 use Rattle.floats.specs.Order.{_≼_, _≺_, Known}
-use Rattle.floats.proofs.Tests.{or-l, or-split}
+use Rattle.floats.proofs.Tests.{is-false, or-l, or-split}
 use Rattle.floats.proofs.Fractions.{AtMost, le→parts, parts→le, lt→parts, parts→lt}
 use Rattle.floats.proofs.Preorder.{le-trans, left-known, right-known}
 
@@ -58,6 +59,9 @@ not-lt→le x y p q h = go (le y x) (not-le→lt x y p q)
     go : (b : Bool) → ((T b → ⊥) → x ≺ y) → T b
     go true k = tt
     go false k = T-not (lt x y) h (k (λ (z : ⊥). z))
+
+pub le→not-lt : (x y : Float) → x ≼ y → lt y x ≡ false
+le→not-lt x y h = is-false (lt y x) (not-T (lt y x) (λ (k : y ≺ x). lt→not-le y x k h))
 
 -- ---- With `le`.
 

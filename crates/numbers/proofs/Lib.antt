@@ -8,3 +8,4 @@ pub mod Seconds
 pub mod Width
 pub mod Integers
 pub mod Order
+pub mod Spans

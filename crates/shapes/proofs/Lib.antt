@@ -1,4 +1,3 @@
-mod Found
 pub mod Limits
 pub mod Distance
 pub mod Overlap

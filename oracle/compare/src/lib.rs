@@ -1,6 +1,8 @@
 //! Runs the proved library and the Rust on the same inputs, in one process, layer by layer.
 
+pub mod draw;
 pub mod layers;
 pub mod proved;
 pub mod report;
 pub mod room;
+pub mod table;

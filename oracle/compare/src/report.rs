@@ -10,6 +10,7 @@ const TOLD: usize = 10;
 #[derive(Default)]
 pub struct Report {
     ends: BTreeMap<&'static str, BTreeMap<u64, usize>>,
+    seen: BTreeMap<&'static str, usize>,
     differing: usize,
     told: Vec<String>,
 }
@@ -41,6 +42,11 @@ impl Report {
         }
     }
 
+    /// Counts one answer of a sort that a run should have often.
+    pub fn see(&mut self, sort: &'static str) {
+        *self.seen.entry(sort).or_default() += 1;
+    }
+
     pub fn differing(&self) -> usize {
         self.differing
     }
@@ -58,6 +64,9 @@ impl fmt::Display for Report {
                 }
             }
             writeln!(f)?;
+        }
+        for (sort, count) in &self.seen {
+            writeln!(f, "  seen: {sort} {count}")?;
         }
         self.told
             .iter()

@@ -1,5 +1,7 @@
 //! A lent room and what must stand in it: the number handed back and every word are compared.
 
+use terms::Fault;
+
 /// What a call is to hand over: an answer's words, or the number of a refusal.
 #[derive(Clone, Debug, PartialEq)]
 pub enum Expected {
@@ -17,6 +19,12 @@ pub struct Handed {
 const NO_ROOM: u64 = 12;
 
 impl Expected {
+    /// The refusal in the place of a fault of the Rust's; a number that none has, where the rules
+    /// name none.
+    pub fn fault(fault: &Fault) -> Self {
+        Expected::Refused(fault.number().map_or(u64::MAX, u64::from))
+    }
+
     /// The number and the room that a call lent so many words must leave (RULES 4.12, 4.14, 4.15).
     pub fn in_room(&self, len: usize) -> Handed {
         let (number, words): (u64, &[u64]) = match self {

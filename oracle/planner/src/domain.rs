@@ -2,7 +2,7 @@
 //! refusals come (RULES 5.1 to 5.4).
 
 use crate::request::Request;
-use terms::{Obstacle, Profile, Waypoint};
+use terms::{Leg, Obstacle, Profile, Waypoint};
 
 pub const LATEST: i64 = 1_000_000_000_000_000;
 pub const FARTHEST: f64 = 10_000.0;
@@ -27,15 +27,12 @@ pub fn refused(r: &Request) -> Option<u8> {
 
 fn shaped(r: &Request) -> bool {
     let obstacles = &r.scene.obstacles;
-    obstacles.len() <= OBSTACLES
-        && obstacles
-            .iter()
-            .all(|o| o.waypoints.len() != 1 && rising(o))
-        && r.scene.legs() <= LEGS
+    obstacles.len() <= OBSTACLES && obstacles.iter().all(trajectory) && r.scene.legs() <= LEGS
 }
 
-fn rising(o: &Obstacle) -> bool {
-    o.waypoints.windows(2).all(|leg| leg[0].time < leg[1].time)
+/// No waypoint or two and more, their times strictly rising.
+pub fn trajectory(o: &Obstacle) -> bool {
+    o.waypoints.len() != 1 && o.waypoints.windows(2).all(|leg| leg[0].time < leg[1].time)
 }
 
 fn numbers_allowed(r: &Request) -> bool {
@@ -43,18 +40,31 @@ fn numbers_allowed(r: &Request) -> bool {
         && waypoint(&r.from)
         && waypoint(&r.to)
         && r.scene.obstacles.iter().all(|o| {
-            profile(o.profile)
-                && (0.0..=LARGEST_CONFLICT).contains(&o.conflict_squared)
-                && o.waypoints.iter().all(waypoint)
+            profile(o.profile) && limit(o.conflict_squared) && o.waypoints.iter().all(waypoint)
         })
 }
 
-fn profile(p: Profile) -> bool {
+pub fn profile(p: Profile) -> bool {
     (0.0..=WIDEST).contains(&p.footprint) && (0.0..=WIDEST).contains(&p.follow)
 }
 
-fn waypoint(w: &Waypoint) -> bool {
-    (0..=LATEST).contains(&w.time)
-        && (-FARTHEST..=FARTHEST).contains(&w.x)
-        && (-FARTHEST..=FARTHEST).contains(&w.y)
+/// A conflict distance squared.
+pub fn limit(x: f64) -> bool {
+    (0.0..=LARGEST_CONFLICT).contains(&x)
+}
+
+pub fn time(t: i64) -> bool {
+    (0..=LATEST).contains(&t)
+}
+
+pub fn coordinate(x: f64) -> bool {
+    (-FARTHEST..=FARTHEST).contains(&x)
+}
+
+pub fn waypoint(w: &Waypoint) -> bool {
+    time(w.time) && coordinate(w.x) && coordinate(w.y)
+}
+
+pub fn leg(leg: Leg) -> bool {
+    waypoint(&leg.0) && waypoint(&leg.1)
 }

@@ -180,3 +180,15 @@ fn a_conflict_distance_that_is_carried() {
     assert_eq!(near(0.998_001), Some(4_500_500_000));
     assert_eq!(near(LIMIT), Some(4_500_000_000));
 }
+
+#[test]
+fn zeros_of_both_signs_in_a_box() {
+    let bare = Profile {
+        footprint: 0.0,
+        follow: 0.0,
+    };
+    let leg = (Waypoint::new(0, 0.0, 0.0), Waypoint::new(S, 0.0, -0.0));
+    let (least, greatest) = ask::box_for_line(bare, leg);
+    // which zero it is the Rust does not say; either is the same bound
+    assert_eq!((least, greatest), ((0.0, 0.0), (0.0, 0.0)));
+}

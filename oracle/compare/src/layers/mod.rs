@@ -1,6 +1,13 @@
 //! One file for each layer that is compared.
 
+pub mod boxes;
+pub mod conflict;
+pub mod positions;
+pub mod profiles;
+pub mod proximity;
 pub mod roots;
+pub mod segment;
+pub mod stationary;
 pub mod times;
 
 use crate::report::Report;
@@ -19,5 +26,33 @@ pub const ALL: &[Layer] = &[
     Layer {
         name: "times",
         compare: times::compare,
+    },
+    Layer {
+        name: "profiles",
+        compare: profiles::compare,
+    },
+    Layer {
+        name: "boxes",
+        compare: boxes::compare,
+    },
+    Layer {
+        name: "positions",
+        compare: positions::compare,
+    },
+    Layer {
+        name: "proximity",
+        compare: proximity::compare,
+    },
+    Layer {
+        name: "conflict",
+        compare: conflict::compare,
+    },
+    Layer {
+        name: "segment",
+        compare: segment::compare,
+    },
+    Layer {
+        name: "stationary",
+        compare: stationary::compare,
     },
 ];

@@ -1,7 +1,7 @@
 -- `shapes::calls::are_profiles` meets its contract: it is the second test where the first one holds.
 -- Assumes nothing.
 use borrow.Author.Needs.{needs}
-use Rattle.shapes.proofs.Found.{found-true, found-false}
+use Rattle.floats.proofs.Tests.{found-true, found-false}
 use Rattle.shapes.proofs.calls.are_profiles.Statement.{statement}
 use Rattle.shapes.proofs.calls.are_profiles.Tie as tie
 

@@ -5,7 +5,7 @@ use mathlib.Core.Bool.{true}
 use borrow.Author.Needs.{needs}
 use Rattle.shapes.specs.Domain.{isProfile, isLeg}
 use Rattle.shapes.specs.Asked.{askedBox}
-use Rattle.shapes.proofs.Found.{found-true, found-false}
+use Rattle.floats.proofs.Tests.{found-true, found-false}
 use Rattle.shapes.proofs.calls.box_of_leg.Statement.{statement}
 use Rattle.shapes.proofs.calls.box_of_leg.Tie as tie
 

@@ -5,7 +5,7 @@ use mathlib.Core.Bool.{true}
 use borrow.Author.Needs.{needs}
 use Rattle.shapes.specs.Domain.{isBox}
 use Rattle.shapes.specs.Asked.{askedOverlap}
-use Rattle.shapes.proofs.Found.{found-true, found-false}
+use Rattle.floats.proofs.Tests.{found-true, found-false}
 use Rattle.shapes.proofs.calls.boxes_overlap.Statement.{statement}
 use Rattle.shapes.proofs.calls.boxes_overlap.Tie as tie
 

@@ -2,7 +2,7 @@
 -- Assumes nothing.
 use borrow.Author.Needs.{needs}
 use Rattle.shapes.specs.Asked.{askedDistance}
-use Rattle.shapes.proofs.Found.{found-true, found-false}
+use Rattle.floats.proofs.Tests.{found-true, found-false}
 use Rattle.shapes.proofs.calls.follow_distance.Statement.{statement}
 use Rattle.shapes.proofs.calls.follow_distance.Tie as tie
 

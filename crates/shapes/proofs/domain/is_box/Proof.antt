@@ -4,7 +4,7 @@ use mathlib.Core.Path.{_≡_}
 use mathlib.Core.Bool.{true}
 use borrow.Author.Needs.{needs}
 use Rattle.shapes.specs.Domain.{isBound, isBox}
-use Rattle.shapes.proofs.Found.{found-true, found-false}
+use Rattle.floats.proofs.Tests.{found-true, found-false}
 use Rattle.shapes.proofs.domain.is_box.Statement.{statement}
 use Rattle.shapes.proofs.domain.is_box.Tie as tie
 

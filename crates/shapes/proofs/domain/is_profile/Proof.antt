@@ -2,7 +2,7 @@
 -- Assumes nothing.
 use borrow.Author.Needs.{needs}
 use Rattle.shapes.specs.Domain.{isProfile}
-use Rattle.shapes.proofs.Found.{found-true, found-false}
+use Rattle.floats.proofs.Tests.{found-true, found-false}
 use Rattle.shapes.proofs.domain.is_profile.Statement.{statement}
 use Rattle.shapes.proofs.domain.is_profile.Tie as tie
 

@@ -1,0 +1,21 @@
+-- Waypoints, legs and profiles of the plain numbers that a call is handed.
+-- Assumes nothing.
+use lib.IntN.{ℤ}
+use lib.Ieee.{Float}
+use Rattle.shapes.specs.declared.profile.CircularProfile.{CircularProfile}
+use Rattle.shapes.specs.declared.waypoint.Leg.{Leg}
+use Rattle.shapes.specs.declared.waypoint.Vector.{Vector}
+
+-- The leg from (x0, y0) at t0 to (x1, y1) at t1.
+abbrev pub legOf : ℤ → Float → Float → ℤ → Float → Float → Leg
+legOf t0 x0 y0 t1 x1 y1 =
+    record {
+      start = record { time = record { 0 = t0 }; x = x0; y = y0 };
+      end = record { time = record { 0 = t1 }; x = x1; y = y1 };
+    }
+
+abbrev pub profileOf : Float → Float → CircularProfile
+profileOf footprint follow = record { footprint = footprint; follow = follow }
+
+abbrev pub vectorOf : Float → Float → Vector
+vectorOf x y = record { x = x; y = y }

@@ -1,0 +1,37 @@
+// The safe segment: the agent comes as plain numbers, the table of obstacles as lent lists.
+use crate::proximity_calls;
+use crate::shape_calls;
+use segments::calls;
+use shapes::profile::CircularProfile;
+ghost use Rattle.lists.specs.Outcome.{Handed};
+ghost use Rattle.proximity.specs.Conflict.{verdictOutcome};
+ghost use Rattle.segments.specs.Asked.{askedSegment};
+ghost use Rattle.exports.specs.Plain.{legOf, profileOf};
+
+// Whether the agent's leg is safe among the obstacles of a lent table.
+#[no_mangle]
+pub extern "C" fn igelbert_is_safe_segment(
+    footprint: f64,
+    follow: f64,
+    t0: i64,
+    x0: f64,
+    y0: f64,
+    t1: i64,
+    x1: f64,
+    y1: f64,
+    starts: &[usize],
+    numbers: &[f64],
+    times: &[i64],
+    xs: &[f64],
+    ys: &[f64],
+    out: &mut [u64],
+) -> u64
+    ensures { λ r. ⌜ Handed (verdictOutcome (askedSegment (profileOf footprint follow) (legOf t0 x0 y0 t1 x1 y1) (record { starts = now (starts .entry); numbers = now (numbers .entry); times = now (times .entry); xs = now (xs .entry); ys = now (ys .entry) }))) (now (out .entry)) (now (out .exit)) r ⌝ }
+{
+    let p = CircularProfile { footprint, follow };
+    let agent = shape_calls::leg_of(t0, x0, y0, t1, x1, y1);
+    proximity_calls::give_verdict(
+        calls::segment(p, agent, starts, numbers, times, xs, ys),
+        out,
+    )
+}

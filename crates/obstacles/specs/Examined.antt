@@ -1,0 +1,63 @@
+-- What is wrong with a table (RULES 3.1 to 3.6, 5.1): 2 for its lists, its counts and the order of its times, 1 for its numbers.
+-- Assumes nothing.
+use Prim.Native.Nat.{ℕ, _+_, _*_}
+use mathlib.Core.Bool.{Bool, not, _&&_, cond}
+use mathlib.Core.List.{List, [], _∷_}
+use lib.Dec.{leb, eqb}
+use lib.ListN.{length}
+use Rattle.lists.specs.Listed.{listedTo, every}
+use Rattle.shapes.specs.Leg.{isBackward, isRising}
+use Rattle.shapes.specs.Domain.{isLimit, isWaypoint, isLeg, isProfile}
+use Rattle.shapes.specs.declared.domain.Examined.{Examined}
+use Rattle.shapes.specs.declared.domain.Examined.the-variants.{Fine, Refused}
+use Rattle.shapes.specs.declared.profile.CircularProfile.{CircularProfile}
+use Rattle.shapes.specs.declared.waypoint.Leg.{Leg}
+use Rattle.shapes.specs.declared.waypoint.Waypoint.{Waypoint}
+use Rattle.obstacles.specs.Obstacle.{Obstacle, legsOf}
+use Rattle.obstacles.specs.Lent.{Lent, startIn, obstaclesOf}
+
+-- The starts begin at 0 and never fall, up to the count of waypoints: each waypoint belongs to one obstacle.
+unfoldable pub tiles : List ℕ → ℕ → Bool
+tiles starts count =
+    eqb (startIn starts count 0) 0 &&
+    every (λ o. leb (startIn starts count o) (startIn starts count (o + 1))) (listedTo (λ o. o) (length starts) 0)
+
+-- The lists fit one another: a time, an x and a y for each waypoint, three numbers for each obstacle.
+unfoldable pub isLaid : Lent → Bool
+isLaid lent =
+    eqb (length (lent .xs)) (length (lent .times)) &&
+    (eqb (length (lent .ys)) (length (lent .times)) &&
+    (eqb (length (lent .numbers)) (3 * length (lent .starts)) && tiles (lent .starts) (length (lent .times))))
+
+-- No waypoint or two and more, their times strictly rising (RULES 3.6).
+unfoldable pub isTrajectory : List Waypoint → Bool
+isTrajectory ws = not (eqb (length ws) 1) && every isRising (legsOf ws)
+
+-- How many legs there are in all.
+unfoldable pub legsInAll : List Obstacle → ℕ
+legsInAll [] = 0
+legsInAll (o ∷ os) = length (legsOf (o .waypoints)) + legsInAll os
+
+-- At most 32 obstacles and 256 legs (RULES 3.5).
+unfoldable pub isFew : List Obstacle → Bool
+isFew os = leb (length os) 32 && leb (legsInAll os) 256
+
+-- The lists, the counts and the order of times are those of the table; else the refusal is 2 (RULES 4.2).
+unfoldable pub isShaped : Lent → Bool
+isShaped lent =
+    isLaid lent && (isFew (obstaclesOf lent) && every (λ o. isTrajectory (o .waypoints)) (obstaclesOf lent))
+
+-- An obstacle's numbers are in the table (RULES 3.1 to 3.4).
+unfoldable pub isAllowed : Obstacle → Bool
+isAllowed o = isProfile (o .profile) && (isLimit (o .limit) && every isWaypoint (o .waypoints))
+
+-- All of them are; else the refusal is 1 (RULES 4.1).
+unfoldable pub areAllowed : Lent → Bool
+areAllowed lent = every isAllowed (obstaclesOf lent)
+
+-- What is wrong with the agent's profile and leg and the table: every ground for 2 before any for 1, and 3 last (RULES 5.1).
+unfoldable pub agentExamined : CircularProfile → Leg → Lent → Examined
+agentExamined p leg lent =
+    cond (isShaped lent)
+    (cond (isProfile p && (isLeg leg && areAllowed lent)) (cond (isBackward leg) (Refused 3) Fine) (Refused 1))
+    (Refused 2)

@@ -1,0 +1,5 @@
+pub mod Obstacle
+pub mod Lent
+pub mod Boxes
+pub mod Examined
+pub mod Asked

@@ -1,0 +1,14 @@
+pub mod Holding
+pub mod Short
+pub mod Moving
+pub mod Origins
+pub mod Times
+pub mod Conflicts
+pub mod ShortLegs
+pub mod Placed
+pub mod Arrivals
+pub mod Apart
+pub mod Roots
+pub mod OnDomain
+pub mod StationaryGiven
+mod Else

@@ -1,0 +1,85 @@
+-- What the calls answer: each examines its own input first (RULES 5.1 to 5.4, 5.11).
+-- Assumes nothing.
+use mathlib.Core.Bool.{Bool, cond, _&&_}
+use mathlib.Core.List.{[], _∷_}
+use lib.Ieee.{Float, binary64, toBits}
+use Rattle.lists.specs.Outcome.{Outcome, Gives, Refuses}
+use Rattle.numbers.specs.declared.time.TimePoint.{TimePoint}
+use Rattle.shapes.specs.Leg.{isBackward, isRising}
+use Rattle.shapes.specs.Box.{boxOfLeg}
+use Rattle.shapes.specs.Domain.{isTime, isPlace, isSpeed, isLimit, isLeg, isProfile}
+use Rattle.shapes.specs.declared.domain.Examined.{Examined}
+use Rattle.shapes.specs.declared.domain.Examined.the-variants as X
+use Rattle.shapes.specs.declared.profile.CircularProfile.{CircularProfile}
+use Rattle.shapes.specs.declared.waypoint.Leg.{Leg}
+use Rattle.shapes.specs.declared.waypoint.Vector.{Vector}
+use Rattle.proximity.specs.Motion.{motionAt}
+use Rattle.proximity.specs.Proximity.{proximityOf}
+use Rattle.proximity.specs.Conflict.{conflictOf}
+use Rattle.proximity.specs.Stationary.{stationaryProximity}
+use Rattle.proximity.specs.declared.motion.Motion.{Motion}
+use Rattle.proximity.specs.declared.motion.Motion.the-variants as M
+use Rattle.proximity.specs.declared.calls.Whereabouts.{Whereabouts}
+use Rattle.proximity.specs.declared.calls.Whereabouts.the-variants as Q
+use Rattle.proximity.specs.declared.detect.Proximity.{Proximity}
+use Rattle.proximity.specs.declared.detect.Proximity.the-variants as P
+use Rattle.proximity.specs.declared.conflict.Verdict.{Verdict}
+use Rattle.proximity.specs.declared.conflict.Verdict.the-variants as W
+use Rattle.proximity.specs.declared.stationary.Stay.{Stay}
+use Rattle.proximity.specs.declared.stationary.Stay.the-variants as S
+
+-- A leg of the agent's at an instant: 1 for its numbers, 3 where it runs backward, then the work.
+unfoldable pub askedPosition : Leg → TimePoint → Whereabouts
+askedPosition leg t =
+    cond (isLeg leg && isTime t) (cond (isBackward leg) (Q.Refused 3) (found (motionAt leg t))) (Q.Refused 1)
+  where
+    found : Motion → Whereabouts
+    found (M.At s) = Q.At s
+    found M.Outside = Q.Outside
+    found M.Strayed = Q.Refused 7
+
+-- What is wrong with the agent's leg, an obstacle's leg and a limit: 2 where the obstacle's times do not rise, 1 for the numbers,
+-- 3 where the agent runs backward (RULES 5.1).
+unfoldable pub legsExamined : Float → Leg → Leg → Examined
+legsExamined limit agent obstacle =
+    cond (isRising obstacle)
+    (cond (isLeg agent && (isLimit limit && isLeg obstacle)) (cond (isBackward agent) (X.Refused 3) X.Fine) (X.Refused 1))
+    (X.Refused 2)
+
+-- Proximity of the two.
+unfoldable pub askedProximity : Float → Leg → Leg → Proximity
+askedProximity limit agent obstacle = examined (legsExamined limit agent obstacle)
+  where
+    examined : Examined → Proximity
+    examined X.Fine = proximityOf limit agent obstacle
+    examined (X.Refused n) = P.Refused n
+
+-- What is wrong with them and the two profiles.
+unfoldable pub cartsExamined : CircularProfile → CircularProfile → Float → Leg → Leg → Examined
+cartsExamined p q limit agent obstacle =
+    cond (isRising obstacle)
+    (cond (isProfile p && isProfile q) (legsExamined limit agent obstacle) (X.Refused 1))
+    (X.Refused 2)
+
+-- A conflict of the two, each with the box of its own leg and footprint (RULES 9.1).
+unfoldable pub askedConflict : CircularProfile → Leg → CircularProfile → Leg → Float → Verdict
+askedConflict p agent q obstacle limit = examined (cartsExamined p q limit agent obstacle)
+  where
+    examined : Examined → Verdict
+    examined X.Fine = conflictOf agent (boxOfLeg (p .footprint) agent) obstacle (boxOfLeg (q .footprint) obstacle) limit
+    examined (X.Refused n) = W.Refused n
+
+-- Places, a velocity and a squared distance: 1 for the numbers (RULES 3.2, 3.4, 3.8).
+unfoldable pub isStay : Vector → Vector → Vector → Float → Bool
+isStay r p0 v limit = isPlace r && (isPlace p0 && (isSpeed (v .x) && (isSpeed (v .y) && isLimit limit)))
+
+unfoldable pub askedStationary : Vector → Vector → Vector → Float → Stay
+askedStationary r p0 v limit = cond (isStay r p0 v limit) (stationaryProximity r p0 v limit) S.Refused
+
+-- The number and the words of a position: whether there is one, the place and the velocity.
+abbrev pub positionOutcome : Whereabouts → Outcome
+positionOutcome (Q.At s) =
+    Gives (1 ∷ (toBits binary64 (s .place .x) ∷ (toBits binary64 (s .place .y) ∷
+    (toBits binary64 (s .velocity .x) ∷ (toBits binary64 (s .velocity .y) ∷ [])))))
+positionOutcome Q.Outside = Gives (0 ∷ [])
+positionOutcome (Q.Refused n) = Refuses n

@@ -1,0 +1,7 @@
+pub mod Motion
+pub mod Quadratic
+pub mod Range
+pub mod Proximity
+pub mod Conflict
+pub mod Stationary
+pub mod Asked

@@ -1,0 +1,153 @@
+// The calls for motion, proximity, conflict and stationary proximity: each examines its own input, then does the work
+// (docs/RULES.md, 5.1 to 5.4 and 5.11).
+use crate::conflict;
+use crate::conflict::Verdict;
+use crate::detect;
+use crate::detect::Proximity;
+use crate::motion;
+use crate::motion::Motion;
+use crate::motion::State;
+use crate::stationary;
+use crate::stationary::Stay;
+use numbers::time::TimePoint;
+use shapes::bounding_box::BoundingBox;
+use shapes::domain;
+use shapes::domain::Examined;
+use shapes::profile::CircularProfile;
+use shapes::waypoint::Leg;
+use shapes::waypoint::Vector;
+ghost use mathlib.Core.Path.{_≡_};
+ghost use Rattle.proximity.specs.Asked.{askedPosition, legsExamined, askedProximity, cartsExamined, askedConflict, isStay, askedStationary};
+
+// A leg at an instant: its state, that it is nowhere then, or a refusal and its number.
+pub enum Whereabouts {
+    At(State),
+    Outside,
+    Refused(u64),
+}
+
+// Where a leg of the agent's is at the instant t, and how fast it goes.
+pub fn position(leg: Leg, t: TimePoint) -> Whereabouts
+    ensures { λ r. ⌜ r ≡ askedPosition leg t ⌝ }
+{
+    if !domain::is_leg(leg) {
+        return Whereabouts::Refused(1);
+    }
+    if !domain::is_time(t) {
+        return Whereabouts::Refused(1);
+    }
+    if leg.is_backward() {
+        return Whereabouts::Refused(3);
+    }
+    let found = motion::motion_at(leg, t);
+    match found {
+        Motion::At(s) => Whereabouts::At(s),
+        Motion::Outside => Whereabouts::Outside,
+        Motion::Strayed => Whereabouts::Refused(7),
+    }
+}
+
+// What is wrong with the agent's leg, an obstacle's leg and a limit.
+fn examine_legs(limit: f64, agent: Leg, obstacle: Leg) -> Examined
+    ensures { λ r. ⌜ r ≡ legsExamined limit agent obstacle ⌝ }
+{
+    if !obstacle.is_rising() {
+        return Examined::Refused(2);
+    }
+    if !domain::is_leg(agent) {
+        return Examined::Refused(1);
+    }
+    if !domain::is_limit(limit) {
+        return Examined::Refused(1);
+    }
+    if !domain::is_leg(obstacle) {
+        return Examined::Refused(1);
+    }
+    if agent.is_backward() {
+        return Examined::Refused(3);
+    }
+    Examined::Fine
+}
+
+// When the agent's leg and an obstacle's come within the limit, and when they leave it.
+pub fn proximity(limit: f64, agent: Leg, obstacle: Leg) -> Proximity
+    ensures { λ r. ⌜ r ≡ askedProximity limit agent obstacle ⌝ }
+{
+    let input = examine_legs(limit, agent, obstacle);
+    match input {
+        Examined::Refused(n) => Proximity::Refused(n),
+        Examined::Fine => detect::detect_proximity(limit, agent, obstacle),
+    }
+}
+
+// What is wrong with them and the two profiles.
+fn examine_carts(
+    p: CircularProfile,
+    q: CircularProfile,
+    limit: f64,
+    agent: Leg,
+    obstacle: Leg,
+) -> Examined
+    ensures { λ r. ⌜ r ≡ cartsExamined p q limit agent obstacle ⌝ }
+{
+    if !obstacle.is_rising() {
+        return Examined::Refused(2);
+    }
+    if !domain::is_profile(p) {
+        return Examined::Refused(1);
+    }
+    if !domain::is_profile(q) {
+        return Examined::Refused(1);
+    }
+    examine_legs(limit, agent, obstacle)
+}
+
+// Whether the agent's leg and an obstacle's are in conflict, each in the box of its own footprint.
+pub fn conflict(
+    p: CircularProfile,
+    agent: Leg,
+    q: CircularProfile,
+    obstacle: Leg,
+    limit: f64,
+) -> Verdict
+    ensures { λ r. ⌜ r ≡ askedConflict p agent q obstacle limit ⌝ }
+{
+    let input = examine_carts(p, q, limit, agent, obstacle);
+    match input {
+        Examined::Refused(n) => Verdict::Refused(n),
+        Examined::Fine => {
+            let agent_box = BoundingBox::for_line(p.footprint, agent);
+            let obstacle_box = BoundingBox::for_line(q.footprint, obstacle);
+            conflict::have_conflict(agent, agent_box, obstacle, obstacle_box, limit)
+        }
+    }
+}
+
+// Whether the numbers of a stationary proximity are in the table.
+fn is_stay(r: Vector, p0: Vector, v: Vector, limit: f64) -> bool
+    ensures { λ b. ⌜ b ≡ isStay r p0 v limit ⌝ }
+{
+    if !domain::is_place(r) {
+        return false;
+    }
+    if !domain::is_place(p0) {
+        return false;
+    }
+    if !domain::is_speed(v.x) {
+        return false;
+    }
+    if !domain::is_speed(v.y) {
+        return false;
+    }
+    domain::is_limit(limit)
+}
+
+// When something that goes from p0 by v is within a distance of the place r.
+pub fn stationary_proximity(r: Vector, p0: Vector, v: Vector, limit: f64) -> Stay
+    ensures { λ s. ⌜ s ≡ askedStationary r p0 v limit ⌝ }
+{
+    if !is_stay(r, p0, v, limit) {
+        return Stay::Refused;
+    }
+    stationary::compute_stationary_proximity(r, p0, v, limit)
+}

@@ -1,0 +1,85 @@
+// Whether two legs are in conflict: `have_conflict` of the Rust (docs/RULES.md, 9.1 to 9.6).
+use crate::detect;
+use crate::detect::Entry;
+use crate::detect::Proximity;
+use crate::quadratic;
+use crate::quadratic::Meeting;
+use crate::quadratic::Quadratic;
+use numbers::time::Span;
+use numbers::time::TimePoint;
+use shapes::bounding_box::BoundingBox;
+use shapes::waypoint::Leg;
+ghost use mathlib.Core.Path.{_≡_};
+ghost use Rattle.proximity.specs.Conflict.{isClosing, closingAt, enteredAt, conflictOf};
+
+// No conflict, a conflict, or a refusal and its number.
+pub enum Verdict {
+    Clear,
+    Conflict,
+    Refused(u64),
+}
+
+// Whether the squared distance falls, t seconds after the range's start.
+fn is_closing(q: Quadratic, t: f64) -> bool
+    ensures { λ r. ⌜ r ≡ isClosing q t ⌝ }
+{
+    (2.0 * q.a) * t + q.b < -1e-6
+}
+
+// A conflict at the entry t, if the legs still close in on one another then.
+fn closing_at(limit: f64, agent: Leg, obstacle: Leg, t: TimePoint) -> Verdict
+    ensures { λ r. ⌜ r ≡ closingAt limit agent obstacle t ⌝ }
+{
+    let t0 = detect::range_start(agent, obstacle);
+    let since = t.since(t0);
+    let Span::Of(d) = since else {
+        return Verdict::Refused(7);
+    };
+    let meeting = quadratic::meeting_from(limit, agent, obstacle, t0);
+    match meeting {
+        Meeting::Refused(n) => Verdict::Refused(n),
+        Meeting::Of(q) => {
+            if is_closing(q, d.as_secs_f64()) {
+                return Verdict::Conflict;
+            }
+            Verdict::Clear
+        }
+    }
+}
+
+// An entry counts only strictly inside both legs.
+fn entered_at(limit: f64, agent: Leg, obstacle: Leg, t: TimePoint) -> Verdict
+    ensures { λ r. ⌜ r ≡ enteredAt limit agent obstacle t ⌝ }
+{
+    if !agent.is_inside(t) {
+        return Verdict::Clear;
+    }
+    if !obstacle.is_inside(t) {
+        return Verdict::Clear;
+    }
+    closing_at(limit, agent, obstacle, t)
+}
+
+// Whether the agent's leg and an obstacle's are in conflict, each with its box.
+pub fn have_conflict(
+    agent: Leg,
+    bounds: BoundingBox,
+    obstacle: Leg,
+    other: BoundingBox,
+    limit: f64,
+) -> Verdict
+    ensures { λ r. ⌜ r ≡ conflictOf agent bounds obstacle other limit ⌝ }
+{
+    if !bounds.overlaps(other) {
+        return Verdict::Clear;
+    }
+    let proximity = detect::detect_proximity(limit, agent, obstacle);
+    if let Proximity::Refused(n) = proximity {
+        return Verdict::Refused(n);
+    }
+    let entry = proximity.entry();
+    let Entry::At(t) = entry else {
+        return Verdict::Clear;
+    };
+    entered_at(limit, agent, obstacle, t)
+}

@@ -1,0 +1,3 @@
+pub mod Segment
+pub mod Asked
+pub mod Early

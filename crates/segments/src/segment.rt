@@ -1,0 +1,85 @@
+// Whether a segment is safe: `is_safe_segment` of the Rust (docs/RULES.md, 9.7 to 9.11).
+use obstacles::boxes;
+use obstacles::table;
+use proximity::conflict;
+use proximity::conflict::Verdict;
+use shapes::bounding_box::BoundingBox;
+use shapes::waypoint::Leg;
+ghost use mathlib.Core.Path.{_≡_};
+ghost use Rattle.obstacles.specs.Lent.{obstaclesWith};
+ghost use Rattle.obstacles.specs.Boxes.{boxIn};
+ghost use Rattle.segments.specs.Segment.{isDuring, legVerdict, lastIn, segmentOf};
+
+// Whether a leg is among those of the agent's times: it ends at or after the agent's start and starts at or before its end.
+fn is_during(agent: Leg, leg: Leg) -> bool
+    ensures { λ r. ⌜ r ≡ isDuring agent leg ⌝ }
+{
+    if leg.end.time.is_before(agent.start.time) {
+        return false;
+    }
+    if agent.end.time.is_before(leg.start.time) {
+        return false;
+    }
+    true
+}
+
+// What one leg of an obstacle with this footprint and limit says.
+fn leg_verdict(agent: Leg, bounds: BoundingBox, footprint: f64, limit: f64, leg: Leg) -> Verdict
+    ensures { λ r. ⌜ r ≡ legVerdict agent bounds footprint limit leg ⌝ }
+{
+    if !is_during(agent, leg) {
+        return Verdict::Clear;
+    }
+    let around = BoundingBox::for_line(footprint, leg);
+    conflict::have_conflict(agent, bounds, leg, around, limit)
+}
+
+// The last of an obstacle's waypoints, which end before `end`: where its walk ends. It is 0, so that none is walked, where the
+// obstacle's box does not overlap the agent's.
+fn last_of(bounds: BoundingBox, around: BoundingBox, end: usize) -> usize
+    ensures { λ r. ⌜ r ≡ lastIn bounds around end ⌝ }
+{
+    if !bounds.overlaps(around) {
+        return 0;
+    }
+    if end == 0 {
+        return 0;
+    }
+    end - 1
+}
+
+// Whether no leg of any obstacle, taken in order, is in conflict with the agent's. The first that is ends the whole walk.
+pub fn is_safe_segment(
+    agent: Leg,
+    bounds: BoundingBox,
+    starts: &[usize],
+    numbers: &[f64],
+    times: &[i64],
+    xs: &[f64],
+    ys: &[f64],
+    boxes: &[f64],
+) -> Verdict
+    ensures { λ r. ⌜ r ≡ segmentOf agent bounds (obstaclesWith (record { starts = now (starts .entry); numbers = now (numbers .entry); times = now (times .entry); xs = now (xs .entry); ys = now (ys .entry) }) (boxIn (now (boxes .entry)))) ⌝ }
+{
+    let mut found = Verdict::Clear;
+    let mut o = 0;
+    'walk: while o < starts.len() {
+        let profile = table::profile_at(numbers, o);
+        let limit = table::limit_at(numbers, o);
+        let around = boxes::box_at(boxes, o);
+        let end = table::start_of(starts, times.len(), o + 1);
+        let last = last_of(bounds, around, end);
+        let mut i = starts[o];
+        while i < last {
+            let leg = table::leg_at(times, xs, ys, i, i + 1);
+            let verdict = leg_verdict(agent, bounds, profile.footprint, limit, leg);
+            let Verdict::Clear = verdict else {
+                found = verdict;
+                break 'walk;
+            };
+            i += 1;
+        }
+        o += 1;
+    }
+    found
+}
