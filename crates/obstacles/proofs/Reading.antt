@@ -6,9 +6,7 @@ use mathlib.Core.Path.{_≡_, refl}
 use mathlib.Core.List.{List, [], _∷_}
 use native.Mathlib.Omega.{arith}
 use native.Mathlib.Nat.{le-of-suc-le-suc}
-use lib.IntN.{ℤ}
 use lib.ListN.{length, getD}
-use lib.Ieee.{Float}
 use Rattle.lists.specs.Listed.{listedTo}
 use Rattle.obstacles.specs.Lent.{Lent, startIn, waypointIn, waypointsOf}
 
@@ -16,10 +14,6 @@ pub element-in : {A : Type 0} (l : List A) (i : ℕ) (d e : A) → i < length l 
 element-in [] i d e h = absurd (omega arith)
 element-in (x ∷ l) zero d e h = refl
 element-in (x ∷ l) (suc i) d e h = element-in l i d e (le-of-suc-le-suc h)
-
--- The lists of a call, as one.
-abbrev pub lentOf : List ℕ → List Float → List ℤ → List Float → List Float → Lent
-lentOf starts numbers times xs ys = record { starts = starts; numbers = numbers; times = times; xs = xs; ys = ys }
 
 -- From the start of obstacle o, which is in the list, up to where the next one's begin.
 pub waypoints-read : (lent : Lent) (o to : ℕ) →

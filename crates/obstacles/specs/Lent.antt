@@ -20,16 +20,21 @@ pub record Lent : Type 0 where
   pub xs : List Float
   pub ys : List Float
 
+abbrev pub lentOf : List ℕ → List Float → List ℤ → List Float → List Float → Lent
+lentOf starts numbers times xs ys = record { starts = starts; numbers = numbers; times = times; xs = xs; ys = ys }
+
 -- Where the waypoints of obstacle o begin; past the last obstacle, how many waypoints there are.
 abbrev pub startIn : List ℕ → ℕ → ℕ → ℕ
 startIn starts count o = getD starts o count
 
+-- Its profile, and the conflict distance squared that it carries (RULES 2.16, 7.1).
 abbrev pub profileIn : List Float → ℕ → CircularProfile
 profileIn numbers o = record { footprint = getD numbers (3 * o) nought; follow = getD numbers (3 * o + 1) nought }
 
 abbrev pub limitIn : List Float → ℕ → Float
 limitIn numbers o = getD numbers (3 * o + 2) nought
 
+-- Waypoint i of the table. What a list does not reach is zero.
 abbrev pub waypointIn : List ℤ → List Float → List Float → ℕ → Waypoint
 waypointIn times xs ys i = record { time = record { 0 = getD times i (pos 0) }; x = getD xs i nought; y = getD ys i nought }
 
@@ -44,7 +49,7 @@ waypointsOf lent o =
 unfoldable pub boxOf : Lent → ℕ → BoundingBox
 boxOf lent o = boxOfTrajectory (profileIn (lent .numbers) o .footprint) (waypointsOf lent o)
 
--- Obstacle o, with a box of its own.
+-- Obstacle o, with the box that a function gives it.
 abbrev pub obstacleIn : Lent → (ℕ → BoundingBox) → ℕ → Obstacle
 obstacleIn lent boxes o =
     record {

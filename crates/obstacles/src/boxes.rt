@@ -3,7 +3,7 @@ use crate::table;
 use shapes::bounding_box::BoundingBox;
 ghost use mathlib.Core.Path.{_≡_};
 ghost use Rattle.lists.specs.Listed.{listedTo};
-ghost use Rattle.obstacles.specs.Lent.{waypointIn};
+ghost use Rattle.obstacles.specs.Lent.{lentOf, waypointIn};
 ghost use Rattle.obstacles.specs.Obstacle.{boxOfTrajectory};
 ghost use Rattle.obstacles.specs.Boxes.{boxIn, withBox, boxesOf};
 
@@ -81,7 +81,7 @@ pub fn put_boxes(
     ys: &[f64],
     boxes: &mut [f64],
 )
-    ensures { λ _. ⌜ now (boxes .exit) ≡ boxesOf (record { starts = now (starts .entry); numbers = now (numbers .entry); times = now (times .entry); xs = now (xs .entry); ys = now (ys .entry) }) (now (boxes .entry)) ⌝ }
+    ensures { λ _. ⌜ now (boxes .exit) ≡ boxesOf (lentOf (now (starts .entry)) (now (numbers .entry)) (now (times .entry)) (now (xs .entry)) (now (ys .entry))) (now (boxes .entry)) ⌝ }
 {
     let mut o = 0;
     while o < starts.len() {

@@ -10,7 +10,7 @@ ghost use mathlib.Core.Bool.{_&&_};
 ghost use Rattle.lists.specs.Listed.{listedTo, every};
 ghost use Prim.Native.Nat.{_-_};
 ghost use Rattle.shapes.specs.Domain.{isWaypoint, isProfile, isLimit};
-ghost use Rattle.obstacles.specs.Lent.{waypointIn, profileIn, limitIn, obstaclesOf};
+ghost use Rattle.obstacles.specs.Lent.{lentOf, waypointIn, profileIn, limitIn, obstaclesOf};
 ghost use Rattle.obstacles.specs.Examined.{tiles, isLaid, isTrajectory, isFew, isShaped, areAllowed, agentExamined};
 
 // Whether the starts begin at 0 and never fall, up to the count of waypoints.
@@ -32,7 +32,7 @@ fn is_tiled(starts: &[usize], count: usize) -> bool
 
 // Whether the lists fit one another.
 fn is_laid(starts: &[usize], numbers: &[f64], times: &[i64], xs: &[f64], ys: &[f64]) -> bool
-    ensures { λ r. ⌜ r ≡ isLaid (record { starts = now (starts .entry); numbers = now (numbers .entry); times = now (times .entry); xs = now (xs .entry); ys = now (ys .entry) }) ⌝ }
+    ensures { λ r. ⌜ r ≡ isLaid (lentOf (now (starts .entry)) (now (numbers .entry)) (now (times .entry)) (now (xs .entry)) (now (ys .entry))) ⌝ }
 {
     if xs.len() != times.len() {
         return false;
@@ -58,7 +58,7 @@ fn legs_between(from: usize, to: usize) -> usize
 
 // Whether there are at most 32 obstacles and 256 legs.
 fn is_few(starts: &[usize], numbers: &[f64], times: &[i64], xs: &[f64], ys: &[f64]) -> bool
-    ensures { λ r. ⌜ r ≡ isFew (obstaclesOf (record { starts = now (starts .entry); numbers = now (numbers .entry); times = now (times .entry); xs = now (xs .entry); ys = now (ys .entry) })) ⌝ }
+    ensures { λ r. ⌜ r ≡ isFew (obstaclesOf (lentOf (now (starts .entry)) (now (numbers .entry)) (now (times .entry)) (now (xs .entry)) (now (ys .entry)))) ⌝ }
 {
     if 32 < starts.len() {
         return false;
@@ -108,7 +108,7 @@ fn are_trajectories(
     xs: &[f64],
     ys: &[f64],
 ) -> bool
-    ensures { λ r. ⌜ r ≡ every (λ o. isTrajectory (o .waypoints)) (obstaclesOf (record { starts = now (starts .entry); numbers = now (numbers .entry); times = now (times .entry); xs = now (xs .entry); ys = now (ys .entry) })) ⌝ }
+    ensures { λ r. ⌜ r ≡ every (λ o. isTrajectory (o .waypoints)) (obstaclesOf (lentOf (now (starts .entry)) (now (numbers .entry)) (now (times .entry)) (now (xs .entry)) (now (ys .entry)))) ⌝ }
 {
     let mut o = 0;
     while o < starts.len() {
@@ -124,7 +124,7 @@ fn are_trajectories(
 
 // Whether the lists, the counts and the order of times are those of the table.
 pub fn is_shaped(starts: &[usize], numbers: &[f64], times: &[i64], xs: &[f64], ys: &[f64]) -> bool
-    ensures { λ r. ⌜ r ≡ isShaped (record { starts = now (starts .entry); numbers = now (numbers .entry); times = now (times .entry); xs = now (xs .entry); ys = now (ys .entry) }) ⌝ }
+    ensures { λ r. ⌜ r ≡ isShaped (lentOf (now (starts .entry)) (now (numbers .entry)) (now (times .entry)) (now (xs .entry)) (now (ys .entry))) ⌝ }
 {
     if !is_laid(starts, numbers, times, xs, ys) {
         return false;
@@ -163,7 +163,7 @@ fn are_numbers(numbers: &[f64], o: usize) -> bool
 
 // Whether all numbers of the table are.
 pub fn are_allowed(starts: &[usize], numbers: &[f64], times: &[i64], xs: &[f64], ys: &[f64]) -> bool
-    ensures { λ r. ⌜ r ≡ areAllowed (record { starts = now (starts .entry); numbers = now (numbers .entry); times = now (times .entry); xs = now (xs .entry); ys = now (ys .entry) }) ⌝ }
+    ensures { λ r. ⌜ r ≡ areAllowed (lentOf (now (starts .entry)) (now (numbers .entry)) (now (times .entry)) (now (xs .entry)) (now (ys .entry))) ⌝ }
 {
     let mut o = 0;
     while o < starts.len() {
@@ -190,7 +190,7 @@ pub fn examine(
     xs: &[f64],
     ys: &[f64],
 ) -> Examined
-    ensures { λ r. ⌜ r ≡ agentExamined p leg (record { starts = now (starts .entry); numbers = now (numbers .entry); times = now (times .entry); xs = now (xs .entry); ys = now (ys .entry) }) ⌝ }
+    ensures { λ r. ⌜ r ≡ agentExamined p leg (lentOf (now (starts .entry)) (now (numbers .entry)) (now (times .entry)) (now (xs .entry)) (now (ys .entry))) ⌝ }
 {
     if !is_shaped(starts, numbers, times, xs, ys) {
         return Examined::Refused(2);

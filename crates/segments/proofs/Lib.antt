@@ -1,2 +1,3 @@
 mod Walk
 pub mod EarlyReturn
+pub mod Safe

@@ -11,7 +11,7 @@ ghost use mathlib.Core.Path.{_≡_};
 ghost use Prim.Native.Nat.{_≤_};
 ghost use lib.ListN.{length};
 ghost use Rattle.shapes.specs.Box.{boxOfLeg};
-ghost use Rattle.obstacles.specs.Lent.{obstaclesOf};
+ghost use Rattle.obstacles.specs.Lent.{lentOf, obstaclesOf};
 ghost use Rattle.segments.specs.Segment.{segmentOf};
 ghost use Rattle.segments.specs.Asked.{askedSegment};
 
@@ -26,7 +26,7 @@ fn among(
     ys: &[f64],
 ) -> Verdict
     requires { ⌜ length (now starts) ≤ 32 ⌝ }
-    ensures { λ r. ⌜ r ≡ segmentOf agent (boxOfLeg (p .footprint) agent) (obstaclesOf (record { starts = now (starts .entry); numbers = now (numbers .entry); times = now (times .entry); xs = now (xs .entry); ys = now (ys .entry) })) ⌝ }
+    ensures { λ r. ⌜ r ≡ segmentOf agent (boxOfLeg (p .footprint) agent) (obstaclesOf (lentOf (now (starts .entry)) (now (numbers .entry)) (now (times .entry)) (now (xs .entry)) (now (ys .entry)))) ⌝ }
 {
     let mut boxes = [0.0; 128];
     boxes::put_boxes(starts, numbers, times, xs, ys, &mut boxes);
@@ -44,7 +44,7 @@ pub fn segment(
     xs: &[f64],
     ys: &[f64],
 ) -> Verdict
-    ensures { λ r. ⌜ r ≡ askedSegment p agent (record { starts = now (starts .entry); numbers = now (numbers .entry); times = now (times .entry); xs = now (xs .entry); ys = now (ys .entry) }) ⌝ }
+    ensures { λ r. ⌜ r ≡ askedSegment p agent (lentOf (now (starts .entry)) (now (numbers .entry)) (now (times .entry)) (now (xs .entry)) (now (ys .entry))) ⌝ }
 {
     let input = examine::examine(p, agent, starts, numbers, times, xs, ys);
     match input {

@@ -6,7 +6,7 @@ use proximity::conflict::Verdict;
 use shapes::bounding_box::BoundingBox;
 use shapes::waypoint::Leg;
 ghost use mathlib.Core.Path.{_≡_};
-ghost use Rattle.obstacles.specs.Lent.{obstaclesWith};
+ghost use Rattle.obstacles.specs.Lent.{lentOf, obstaclesWith};
 ghost use Rattle.obstacles.specs.Boxes.{boxIn};
 ghost use Rattle.segments.specs.Segment.{isDuring, legVerdict, lastIn, segmentOf};
 
@@ -59,7 +59,7 @@ pub fn is_safe_segment(
     ys: &[f64],
     boxes: &[f64],
 ) -> Verdict
-    ensures { λ r. ⌜ r ≡ segmentOf agent bounds (obstaclesWith (record { starts = now (starts .entry); numbers = now (numbers .entry); times = now (times .entry); xs = now (xs .entry); ys = now (ys .entry) }) (boxIn (now (boxes .entry)))) ⌝ }
+    ensures { λ r. ⌜ r ≡ segmentOf agent bounds (obstaclesWith (lentOf (now (starts .entry)) (now (numbers .entry)) (now (times .entry)) (now (xs .entry)) (now (ys .entry))) (boxIn (now (boxes .entry)))) ⌝ }
 {
     let mut found = Verdict::Clear;
     let mut o = 0;

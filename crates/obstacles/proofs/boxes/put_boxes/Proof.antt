@@ -6,9 +6,8 @@ use Prim.Native.Nat.{_+_, _-_}
 use native.Mathlib.Omega.{arith}
 use borrow.Author.Needs.{needs}
 use lib.ListN.{length}
-use Rattle.obstacles.specs.Lent.{waypointsOf, boxOf}
+use Rattle.obstacles.specs.Lent.{lentOf, waypointsOf, boxOf}
 use Rattle.obstacles.specs.Boxes.{withBox, withBoxes, boxesOf}
-use Rattle.obstacles.proofs.Reading.{lentOf}
 use Rattle.obstacles.proofs.Filling.{boxes-begin, boxes-next, boxes-done}
 use Rattle.obstacles.proofs.boxes.put_boxes.Statement.{statement}
 use Rattle.obstacles.proofs.boxes.put_boxes.Tie as tie

@@ -11,10 +11,10 @@ use Rattle.lists.specs.Listed.{listedTo, every}
 use Rattle.lists.proofs.Listed.{every-done, every-fails, every-passes}
 use Rattle.shapes.specs.Domain.{isProfile, isLimit, isWaypoint}
 use Rattle.obstacles.specs.Obstacle.{Obstacle}
-use Rattle.obstacles.specs.Lent.{obstacleIn, boxOf, obstaclesWith, obstaclesOf}
+use Rattle.obstacles.specs.Lent.{lentOf, obstacleIn, boxOf, obstaclesWith, obstaclesOf}
 use Rattle.obstacles.specs.Examined.{isAllowed, areAllowed}
 use Rattle.floats.proofs.Tests.{found-true, found-false}
-use Rattle.obstacles.proofs.Reading.{lentOf, waypoints-read}
+use Rattle.obstacles.proofs.Reading.{waypoints-read}
 use Rattle.obstacles.proofs.examine.are_allowed.Statement.{statement}
 use Rattle.obstacles.proofs.examine.are_allowed.Tie as tie
 

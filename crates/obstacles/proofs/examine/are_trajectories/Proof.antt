@@ -10,10 +10,10 @@ use lib.ListN.{length}
 use Rattle.lists.specs.Listed.{listedTo, every}
 use Rattle.lists.proofs.Listed.{every-done, every-fails, every-passes}
 use Rattle.obstacles.specs.Obstacle.{Obstacle}
-use Rattle.obstacles.specs.Lent.{obstacleIn, boxOf, obstaclesWith, obstaclesOf}
+use Rattle.obstacles.specs.Lent.{lentOf, obstacleIn, boxOf, obstaclesWith, obstaclesOf}
 use Rattle.obstacles.specs.Examined.{isTrajectory}
 use Rattle.floats.proofs.Tests.{found-true, found-false}
-use Rattle.obstacles.proofs.Reading.{lentOf, waypoints-read}
+use Rattle.obstacles.proofs.Reading.{waypoints-read}
 use Rattle.obstacles.proofs.examine.are_trajectories.Statement.{statement}
 use Rattle.obstacles.proofs.examine.are_trajectories.Tie as tie
 

@@ -4,9 +4,9 @@ use mathlib.Core.Path.{_≡_, sym, _∙_}
 use mathlib.Core.Bool.{true}
 use borrow.Author.Needs.{needs}
 use Rattle.shapes.specs.Domain.{isProfile, isLeg}
+use Rattle.obstacles.specs.Lent.{lentOf}
 use Rattle.obstacles.specs.Examined.{isShaped, agentExamined}
 use Rattle.floats.proofs.Tests.{found-true, found-false}
-use Rattle.obstacles.proofs.Reading.{lentOf}
 use Rattle.obstacles.proofs.examine.examine.Statement.{statement}
 use Rattle.obstacles.proofs.examine.examine.Tie as tie
 

@@ -9,10 +9,9 @@ use borrow.Author.Needs.{needs}
 use borrow.Author.Tests.{le-leb, lt-leb}
 use lib.ListN.{length}
 use Rattle.lists.specs.Listed.{listedTo}
-use Rattle.obstacles.specs.Lent.{obstacleIn, boxOf, obstaclesWith, obstaclesOf}
+use Rattle.obstacles.specs.Lent.{lentOf, obstacleIn, boxOf, obstaclesWith, obstaclesOf}
 use Rattle.obstacles.specs.Examined.{legsInAll, isFew}
 use Rattle.obstacles.proofs.Counting.{obstacles-count, legs-done-all, legs-next-all, legs-between}
-use Rattle.obstacles.proofs.Reading.{lentOf}
 use Rattle.obstacles.proofs.examine.is_few.Statement.{statement}
 use Rattle.obstacles.proofs.examine.is_few.Tie as tie
 

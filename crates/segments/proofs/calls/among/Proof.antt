@@ -1,12 +1,14 @@
--- `segments::calls::among` meets its contract: 128 doubles have room for the boxes of 32 obstacles, so that each is at its place.
+-- `segments::calls::among` meets its contract: 128 doubles have room for the boxes of 32 obstacles.
 -- Assumes nothing.
-use mathlib.Core.Path.{_∙_}
+use Prim.Native.Nat.{_*_, _≤_}
+use mathlib.Core.Path.{_≡_, ap, _∙_}
+use mathlib.Core.List.{List}
 use native.Mathlib.Omega.{arith}
 use borrow.Author.Needs.{needs}
-use lib.ListN.{replicate}
-use lib.Ieee.{ofBits}
-use Rattle.floats.specs.Size.{nought}
-use Rattle.obstacles.proofs.Reading.{lentOf}
+use lib.ListN.{length}
+use lib.Ieee.{Float}
+use Rattle.obstacles.specs.Lent.{Lent, lentOf, obstaclesWith, obstaclesOf}
+use Rattle.obstacles.specs.Boxes.{boxIn, boxesOf}
 use Rattle.obstacles.proofs.Filling.{obstacles-with-boxes}
 use Rattle.segments.proofs.calls.among.Statement.{statement}
 use Rattle.segments.proofs.calls.among.Tie as tie
@@ -26,14 +28,17 @@ slice-aggregate-is-safe-segment c = search needs
 is-safe-segment-requires : tie.Need-is-safe-segment-requires
 is-safe-segment-requires c κs = search needs
 
+-- The obstacles with the boxes that were put into a list with room for them.
+with-boxes : (lent : Lent) (room boxes : List Float) → boxes ≡ boxesOf lent room →
+    4 * length (lent .starts) ≤ length room → obstaclesWith lent (boxIn boxes) ≡ obstaclesOf lent
+with-boxes lent room boxes e h = ap (λ l. obstaclesWith lent (boxIn l)) e ∙ obstacles-with-boxes lent room h
+
 returns : tie.Need-returns
-unfolding ofBits
 returns c =
     let put = c .before .before .before .before .put-boxes in
     let a = c .before .before .before .before .before .before .before .before .before .before .args in
     let lent = lentOf (a .starts .now) (a .numbers .now) (a .times .now) (a .xs .now) (a .ys .now) in
-    c .is-safe-segment .ensures ∙
-    rw (c .before .before .for-line .ensures, put .ensures, obstacles-with-boxes lent (replicate 128 nought) (omega arith))
+    c .is-safe-segment .ensures ∙ rw (c .before .before .for-line .ensures, with-boxes lent _ _ (put .ensures) (omega arith))
 
 pub among-spec : {M : Type 1} → statement M
 among-spec =

@@ -7,9 +7,8 @@ use Rattle.shapes.specs.declared.domain.Examined.{Examined}
 use Rattle.shapes.specs.declared.domain.Examined.the-variants.{Fine, Refused}
 use Rattle.shapes.specs.declared.profile.CircularProfile.{CircularProfile}
 use Rattle.shapes.specs.declared.waypoint.Leg.{Leg}
-use Rattle.obstacles.specs.Lent.{Lent}
+use Rattle.obstacles.specs.Lent.{Lent, lentOf}
 use Rattle.obstacles.specs.Examined.{isShaped, agentExamined}
-use Rattle.obstacles.proofs.Reading.{lentOf}
 use Rattle.obstacles.proofs.Shaped.{shaped-starts}
 use Rattle.segments.specs.Asked.{askedSegment}
 use Rattle.segments.proofs.calls.segment.Statement.{statement}

@@ -12,10 +12,9 @@ use Rattle.shapes.specs.declared.waypoint.Waypoint.{Waypoint}
 use Rattle.proximity.specs.declared.conflict.Verdict.{Verdict}
 use Rattle.proximity.specs.declared.conflict.Verdict.the-variants.{Clear}
 use Rattle.obstacles.specs.Obstacle.{Obstacle, legsOf}
-use Rattle.obstacles.specs.Lent.{profileIn, limitIn, waypointIn, obstacleIn, obstaclesWith}
+use Rattle.obstacles.specs.Lent.{lentOf, profileIn, limitIn, waypointIn, obstacleIn, obstaclesWith}
 use Rattle.obstacles.specs.Boxes.{boxIn}
-use Rattle.obstacles.proofs.Reading.{lentOf}
-use Rattle.segments.specs.Segment.{legVerdict, firstOf, obstacleVerdict, segmentOf, lastIn}
+use Rattle.segments.specs.Segment.{legVerdict, firstOf, obstacleVerdict, segmentOf}
 use Rattle.segments.proofs.Walk.{first-done, first-next, first-here}
 use Rattle.segments.proofs.Walk.{legs-first-done, legs-first-next, legs-first-here, obstacle-begins}
 use Rattle.segments.proofs.segment.is_safe_segment.Statement.{statement}
@@ -175,7 +174,8 @@ returns-2 c =
     let says : Obstacle → Verdict = obstacleVerdict (a .agent) (a .bounds) in
     let last = l .before .before .last-of .result in
     let found = v .leg-verdict .result in
-    let own = legs-first-here legSays w last (l .loop .i) found (c .match .keys2) (v .before .before .loop-test .taken) (leg-says v) in
+    let on = v .before .before .loop-test .taken in
+    let own = legs-first-here legSays w last (l .loop .i) found (c .match .keys2) on (leg-says v) in
     first-here says f (length (a .starts .now)) (walked .walk .o) found (c .match .keys2) more (own ∙ l .loop .inv .1) ∙
     walked .walk .inv .1
 

@@ -1,6 +1,5 @@
 -- `segments::segment::last_of` meets its contract: one before the end where the boxes overlap, and 0 where it ends at 0.
 -- Assumes nothing.
-use mathlib.Core.Path.{refl}
 use borrow.Author.Needs.{needs}
 use Rattle.floats.proofs.Tests.{found-true, found-false}
 use Rattle.segments.proofs.segment.last_of.Statement.{statement}
