@@ -7,6 +7,8 @@ use shapes::profile::CircularProfile;
 use shapes::waypoint::Leg;
 ghost use mathlib.Core.Path.{_≡_};
 ghost use mathlib.Core.Bool.{_&&_};
+ghost use mathlib.Core.List.{List};
+ghost use lib.Ieee.{Float};
 ghost use Rattle.lists.specs.Listed.{listedTo, every};
 ghost use Prim.Native.Nat.{_-_};
 ghost use Rattle.shapes.specs.Domain.{isWaypoint, isProfile, isLimit};
@@ -56,9 +58,9 @@ fn legs_between(from: usize, to: usize) -> usize
     to - from - 1
 }
 
-// Whether there are at most 32 obstacles and 256 legs.
-fn is_few(starts: &[usize], numbers: &[f64], times: &[i64], xs: &[f64], ys: &[f64]) -> bool
-    ensures { λ r. ⌜ r ≡ isFew (obstaclesOf (lentOf (now (starts .entry)) (now (numbers .entry)) (now (times .entry)) (now (xs .entry)) (now (ys .entry)))) ⌝ }
+// Whether there are at most 32 obstacles and 256 legs, whatever their numbers and places.
+fn is_few(starts: &[usize], times: &[i64]) -> bool
+    ensures { λ r. ⌜ ((numbers xs ys : List Float) → r ≡ isFew (obstaclesOf (lentOf (now (starts .entry)) numbers (now (times .entry)) xs ys))) ⌝ }
 {
     if 32 < starts.len() {
         return false;
@@ -100,15 +102,9 @@ fn is_trajectory(times: &[i64], xs: &[f64], ys: &[f64], from: usize, to: usize) 
     true
 }
 
-// Whether every obstacle's waypoints are one.
-fn are_trajectories(
-    starts: &[usize],
-    numbers: &[f64],
-    times: &[i64],
-    xs: &[f64],
-    ys: &[f64],
-) -> bool
-    ensures { λ r. ⌜ r ≡ every (λ o. isTrajectory (o .waypoints)) (obstaclesOf (lentOf (now (starts .entry)) (now (numbers .entry)) (now (times .entry)) (now (xs .entry)) (now (ys .entry)))) ⌝ }
+// Whether every obstacle's waypoints are one, whatever its numbers.
+fn are_trajectories(starts: &[usize], times: &[i64], xs: &[f64], ys: &[f64]) -> bool
+    ensures { λ r. ⌜ ((numbers : List Float) → r ≡ every (λ o. isTrajectory (o .waypoints)) (obstaclesOf (lentOf (now (starts .entry)) numbers (now (times .entry)) (now (xs .entry)) (now (ys .entry))))) ⌝ }
 {
     let mut o = 0;
     while o < starts.len() {
@@ -129,10 +125,10 @@ pub fn is_shaped(starts: &[usize], numbers: &[f64], times: &[i64], xs: &[f64], y
     if !is_laid(starts, numbers, times, xs, ys) {
         return false;
     }
-    if !is_few(starts, numbers, times, xs, ys) {
+    if !is_few(starts, times) {
         return false;
     }
-    are_trajectories(starts, numbers, times, xs, ys)
+    are_trajectories(starts, times, xs, ys)
 }
 
 // Whether every waypoint from `from` up to `to` is in the table.

@@ -21,7 +21,9 @@ unfolding isShaped
 returns-2 c =
     let first = c .before .before in
     let laid = found-true (first .before .is-laid .ensures) (first .if1 .left) in
-    rw (laid, found-false (c .before .is-few .ensures) (c .if2 .taken))
+    let a = first .before .before .before .before .before .before .args in
+    let few = c .before .is-few .ensures (a .numbers .now) (a .xs .now) (a .ys .now) in
+    rw (laid, found-false few (c .if2 .taken))
 
 are-trajectories-requires : tie.Need-are-trajectories-requires
 are-trajectories-requires c κs = search needs
@@ -32,8 +34,9 @@ returns-3 c =
     let second = c .before in
     let first = second .before .before in
     let laid = found-true (first .before .is-laid .ensures) (first .if1 .left) in
-    let few = found-true (second .before .is-few .ensures) (second .if2 .left) in
-    rw (laid, few) (c .are-trajectories .ensures)
+    let a = first .before .before .before .before .before .before .args in
+    let few = second .before .is-few .ensures (a .numbers .now) (a .xs .now) (a .ys .now) in
+    rw (laid, found-true few (second .if2 .left)) (c .are-trajectories .ensures (a .numbers .now))
 
 pub is-shaped-spec : {M : Type 1} → statement M
 is-shaped-spec =
