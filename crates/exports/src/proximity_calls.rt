@@ -1,13 +1,8 @@
 // Motion, proximity, conflict and stationary proximity: legs, profiles and places come as plain numbers.
 use crate::shape_calls;
-use lists::words;
+use handing::proximity_words;
 use numbers::time::TimePoint;
-use numbers::word;
 use proximity::calls;
-use proximity::calls::Whereabouts;
-use proximity::conflict::Verdict;
-use proximity::detect::Proximity;
-use proximity::stationary::Stay;
 use shapes::profile::CircularProfile;
 use shapes::waypoint::Vector;
 ghost use Rattle.lists.specs.Outcome.{Handed};
@@ -16,80 +11,6 @@ ghost use Rattle.proximity.specs.Conflict.{verdictOutcome};
 ghost use Rattle.proximity.specs.Stationary.{stayOutcome};
 ghost use Rattle.proximity.specs.Asked.{askedPosition, askedProximity, askedConflict, askedStationary, positionOutcome};
 ghost use Rattle.exports.specs.Plain.{legOf, profileOf, vectorOf};
-
-fn give_position(p: Whereabouts, out: &mut [u64]) -> u64
-    ensures { λ r. ⌜ Handed (positionOutcome p) (now (out .entry)) (now (out .exit)) r ⌝ }
-{
-    match p {
-        Whereabouts::Refused(n) => words::refuse(out, n),
-        Whereabouts::Outside => {
-            let none = [0u64];
-            words::hand_over(out, &none)
-        }
-        Whereabouts::At(s) => {
-            let w = [
-                1u64,
-                word::of_double(s.place.x),
-                word::of_double(s.place.y),
-                word::of_double(s.velocity.x),
-                word::of_double(s.velocity.y),
-            ];
-            words::hand_over(out, &w)
-        }
-    }
-}
-
-fn give_proximity(p: Proximity, out: &mut [u64]) -> u64
-    ensures { λ r. ⌜ Handed (proximityOutcome p) (now (out .entry)) (now (out .exit)) r ⌝ }
-{
-    match p {
-        Proximity::Refused(n) => words::refuse(out, n),
-        Proximity::Never => {
-            let none = [0u64];
-            words::hand_over(out, &none)
-        }
-        Proximity::Enters(t) => {
-            let one = [1u64, word::of_signed(t.0)];
-            words::hand_over(out, &one)
-        }
-        Proximity::Passes(t, u) => {
-            let both = [2u64, word::of_signed(t.0), word::of_signed(u.0)];
-            words::hand_over(out, &both)
-        }
-    }
-}
-
-pub fn give_verdict(v: Verdict, out: &mut [u64]) -> u64
-    ensures { λ r. ⌜ Handed (verdictOutcome v) (now (out .entry)) (now (out .exit)) r ⌝ }
-{
-    match v {
-        Verdict::Refused(n) => words::refuse(out, n),
-        Verdict::Clear => {
-            let w = [0u64];
-            words::hand_over(out, &w)
-        }
-        Verdict::Conflict => {
-            let w = [1u64];
-            words::hand_over(out, &w)
-        }
-    }
-}
-
-fn give_stay(s: Stay, out: &mut [u64]) -> u64
-    ensures { λ r. ⌜ Handed (stayOutcome s) (now (out .entry)) (now (out .exit)) r ⌝ }
-{
-    match s {
-        Stay::Refused => words::refuse(out, 1),
-        Stay::Nothing => {
-            let none = [0u64];
-            words::hand_over(out, &none)
-        }
-        Stay::Between(t, u) => {
-            let both = [2u64, word::of_double(t), word::of_double(u)];
-            words::hand_over(out, &both)
-        }
-    }
-}
 
 // Where a leg of the agent's is at the instant t, and how fast it goes.
 #[no_mangle]
@@ -106,7 +27,7 @@ pub extern "C" fn igelbert_position(
     ensures { λ r. ⌜ Handed (positionOutcome (askedPosition (legOf t0 x0 y0 t1 x1 y1) (record { 0 = t }))) (now (out .entry)) (now (out .exit)) r ⌝ }
 {
     let leg = shape_calls::leg_of(t0, x0, y0, t1, x1, y1);
-    give_position(calls::position(leg, TimePoint(t)), out)
+    proximity_words::give_position(calls::position(leg, TimePoint(t)), out)
 }
 
 // When the agent's leg, from 0 to 1, and an obstacle's, from 2 to 3, come within a squared distance and when they leave it.
@@ -131,7 +52,7 @@ pub extern "C" fn igelbert_detect_proximity(
 {
     let agent = shape_calls::leg_of(t0, x0, y0, t1, x1, y1);
     let obstacle = shape_calls::leg_of(t2, x2, y2, t3, x3, y3);
-    give_proximity(calls::proximity(limit, agent, obstacle), out)
+    proximity_words::give_proximity(calls::proximity(limit, agent, obstacle), out)
 }
 
 // Whether the agent's leg, from 0 to 1, and an obstacle's, from 2 to 3, are in conflict.
@@ -165,7 +86,7 @@ pub extern "C" fn igelbert_have_conflict(
         follow: follow2,
     };
     let obstacle = shape_calls::leg_of(t2, x2, y2, t3, x3, y3);
-    give_verdict(calls::conflict(p, agent, q, obstacle, limit), out)
+    proximity_words::give_verdict(calls::conflict(p, agent, q, obstacle, limit), out)
 }
 
 // When something that goes from (px, py) by (vx, vy) is within a squared distance of (rx, ry), in seconds.
@@ -185,5 +106,5 @@ pub extern "C" fn igelbert_stationary_proximity(
     let r = Vector { x: rx, y: ry };
     let p0 = Vector { x: px, y: py };
     let v = Vector { x: vx, y: vy };
-    give_stay(calls::stationary_proximity(r, p0, v, limit), out)
+    proximity_words::give_stay(calls::stationary_proximity(r, p0, v, limit), out)
 }

@@ -1,6 +1,6 @@
 // The safe segment: the agent comes as plain numbers, the table of obstacles as lent lists.
-use crate::proximity_calls;
 use crate::shape_calls;
+use handing::proximity_words;
 use segments::calls;
 use shapes::profile::CircularProfile;
 ghost use Rattle.lists.specs.Outcome.{Handed};
@@ -31,7 +31,7 @@ pub extern "C" fn igelbert_is_safe_segment(
 {
     let p = CircularProfile { footprint, follow };
     let agent = shape_calls::leg_of(t0, x0, y0, t1, x1, y1);
-    proximity_calls::give_verdict(
+    proximity_words::give_verdict(
         calls::segment(p, agent, starts, numbers, times, xs, ys),
         out,
     )

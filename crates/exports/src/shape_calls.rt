@@ -1,13 +1,8 @@
 // Distances and boxes: profiles, legs and bounds come as plain numbers.
-use lists::words;
+use handing::shape_words;
 use numbers::time::TimePoint;
-use numbers::word;
-use obstacles::calls::Hull;
 use shapes::bounding_box::BoundingBox;
 use shapes::calls;
-use shapes::calls::Boxed;
-use shapes::calls::Distance;
-use shapes::calls::Overlap;
 use shapes::profile::CircularProfile;
 use shapes::waypoint::Leg;
 use shapes::waypoint::Waypoint;
@@ -36,71 +31,6 @@ pub fn leg_of(t0: i64, x0: f64, y0: f64, t1: i64, x1: f64, y1: f64) -> Leg
     }
 }
 
-fn give_distance(d: Distance, out: &mut [u64]) -> u64
-    ensures { λ r. ⌜ Handed (distanceOutcome d) (now (out .entry)) (now (out .exit)) r ⌝ }
-{
-    let Distance::Of(x) = d else {
-        return words::refuse(out, 1);
-    };
-    let w = [word::of_double(x)];
-    words::hand_over(out, &w)
-}
-
-fn give_box(b: Boxed, out: &mut [u64]) -> u64
-    ensures { λ r. ⌜ Handed (boxOutcome b) (now (out .entry)) (now (out .exit)) r ⌝ }
-{
-    match b {
-        Boxed::Refused(n) => words::refuse(out, n),
-        Boxed::Of(at) => {
-            let w = [
-                word::of_double(at.left),
-                word::of_double(at.bottom),
-                word::of_double(at.right),
-                word::of_double(at.top),
-            ];
-            words::hand_over(out, &w)
-        }
-    }
-}
-
-fn give_hull(h: Hull, out: &mut [u64]) -> u64
-    ensures { λ r. ⌜ Handed (hullOutcome h) (now (out .entry)) (now (out .exit)) r ⌝ }
-{
-    match h {
-        Hull::Refused(n) => words::refuse(out, n),
-        Hull::Missing => {
-            let none = [0u64];
-            words::hand_over(out, &none)
-        }
-        Hull::Of(at) => {
-            let w = [
-                1u64,
-                word::of_double(at.left),
-                word::of_double(at.bottom),
-                word::of_double(at.right),
-                word::of_double(at.top),
-            ];
-            words::hand_over(out, &w)
-        }
-    }
-}
-
-fn give_overlap(o: Overlap, out: &mut [u64]) -> u64
-    ensures { λ r. ⌜ Handed (overlapOutcome o) (now (out .entry)) (now (out .exit)) r ⌝ }
-{
-    match o {
-        Overlap::Refused => words::refuse(out, 1),
-        Overlap::Apart => {
-            let w = [0u64];
-            words::hand_over(out, &w)
-        }
-        Overlap::Together => {
-            let w = [1u64];
-            words::hand_over(out, &w)
-        }
-    }
-}
-
 // How near two carts may stand.
 #[no_mangle]
 pub extern "C" fn igelbert_critical_distance(
@@ -117,7 +47,7 @@ pub extern "C" fn igelbert_critical_distance(
         footprint: footprint2,
         follow: follow2,
     };
-    give_distance(calls::critical_distance(p, q), out)
+    shape_words::give_distance(calls::critical_distance(p, q), out)
 }
 
 // That distance times itself.
@@ -136,7 +66,7 @@ pub extern "C" fn igelbert_critical_distance_squared(
         footprint: footprint2,
         follow: follow2,
     };
-    give_distance(calls::critical_distance_squared(p, q), out)
+    shape_words::give_distance(calls::critical_distance_squared(p, q), out)
 }
 
 // How far one cart stays behind another.
@@ -155,7 +85,7 @@ pub extern "C" fn igelbert_follow_distance(
         footprint: footprint2,
         follow: follow2,
     };
-    give_distance(calls::follow_distance(p, q), out)
+    shape_words::give_distance(calls::follow_distance(p, q), out)
 }
 
 // The box of a leg of the agent's.
@@ -175,7 +105,7 @@ pub extern "C" fn igelbert_box_of_leg(
 {
     let p = CircularProfile { footprint, follow };
     let leg = leg_of(t0, x0, y0, t1, x1, y1);
-    give_box(calls::box_of_leg(p, leg), out)
+    shape_words::give_box(calls::box_of_leg(p, leg), out)
 }
 
 // The box of an obstacle's waypoints.
@@ -191,7 +121,7 @@ pub extern "C" fn igelbert_box_of_obstacle(
     ensures { λ r. ⌜ Handed (hullOutcome (askedHull (profileOf footprint follow) (now (times .entry)) (now (xs .entry)) (now (ys .entry)))) (now (out .entry)) (now (out .exit)) r ⌝ }
 {
     let p = CircularProfile { footprint, follow };
-    give_hull(obstacles::calls::box_of_obstacle(p, times, xs, ys), out)
+    shape_words::give_hull(obstacles::calls::box_of_obstacle(p, times, xs, ys), out)
 }
 
 // Whether two boxes overlap.
@@ -221,5 +151,5 @@ pub extern "C" fn igelbert_boxes_overlap(
         right: right2,
         top: top2,
     };
-    give_overlap(calls::boxes_overlap(p, q), out)
+    shape_words::give_overlap(calls::boxes_overlap(p, q), out)
 }

@@ -1,8 +1,7 @@
 // Instants and spans: nanoseconds come as they are, and answers leave as one lent word.
+use handing::time_words;
 use lists::words;
 use numbers::time::Duration;
-use numbers::time::Instant;
-use numbers::time::Span;
 use numbers::time::TimePoint;
 use numbers::word;
 ghost use mathlib.Core.List.{[], _∷_};
@@ -11,36 +10,13 @@ ghost use lib.Ieee.{binary64};
 ghost use Rattle.lists.specs.Outcome.{Handed, Gives};
 ghost use Rattle.numbers.specs.Time.{spanBetween, instantAfter, secondsOf, spanOfSeconds, instantOfSeconds, spanOutcome, instantOutcome};
 
-// The refusal of an instant or a span past 2^53 nanoseconds (docs/RULES.md, 4.7).
-const STRAYED: u64 = 7;
-
-fn give_instant(t: Instant, out: &mut [u64]) -> u64
-    ensures { λ r. ⌜ Handed (instantOutcome t) (now (out .entry)) (now (out .exit)) r ⌝ }
-{
-    let Instant::At(at) = t else {
-        return words::refuse(out, STRAYED);
-    };
-    let w = [word::of_signed(at.0)];
-    words::hand_over(out, &w)
-}
-
-fn give_span(s: Span, out: &mut [u64]) -> u64
-    ensures { λ r. ⌜ Handed (spanOutcome s) (now (out .entry)) (now (out .exit)) r ⌝ }
-{
-    let Span::Of(d) = s else {
-        return words::refuse(out, STRAYED);
-    };
-    let w = [word::of_signed(d.0)];
-    words::hand_over(out, &w)
-}
-
 // The span from the instant `earlier` to the instant `later`.
 #[no_mangle]
 pub extern "C" fn igelbert_span_between(earlier: i64, later: i64, out: &mut [u64]) -> u64
     ensures { λ r. ⌜ Handed (spanOutcome (spanBetween (record { 0 = earlier }) (record { 0 = later }))) (now (out .entry)) (now (out .exit)) r ⌝ }
 {
     let s = TimePoint(later).since(TimePoint(earlier));
-    give_span(s, out)
+    time_words::give_span(s, out)
 }
 
 // The instant a span after an instant.
@@ -49,7 +25,7 @@ pub extern "C" fn igelbert_instant_after(instant: i64, span: i64, out: &mut [u64
     ensures { λ r. ⌜ Handed (instantOutcome (instantAfter (record { 0 = instant }) (record { 0 = span }))) (now (out .entry)) (now (out .exit)) r ⌝ }
 {
     let t = TimePoint(instant).plus(Duration(span));
-    give_instant(t, out)
+    time_words::give_instant(t, out)
 }
 
 // The seconds of an instant, as a double.
@@ -76,7 +52,7 @@ pub extern "C" fn igelbert_instant_of_seconds(seconds: f64, out: &mut [u64]) -> 
     ensures { λ r. ⌜ Handed (instantOutcome (instantOfSeconds seconds)) (now (out .entry)) (now (out .exit)) r ⌝ }
 {
     let t = TimePoint::from_secs_f64(seconds);
-    give_instant(t, out)
+    time_words::give_instant(t, out)
 }
 
 // The span of a number of seconds.
@@ -85,5 +61,5 @@ pub extern "C" fn igelbert_span_of_seconds(seconds: f64, out: &mut [u64]) -> u64
     ensures { λ r. ⌜ Handed (spanOutcome (spanOfSeconds seconds)) (now (out .entry)) (now (out .exit)) r ⌝ }
 {
     let s = Duration::from_secs_f64(seconds);
-    give_span(s, out)
+    time_words::give_span(s, out)
 }
