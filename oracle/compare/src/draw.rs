@@ -106,6 +106,15 @@ impl Drawn {
         }
     }
 
+    /// An obstacle, a leg of the agent's, one of the obstacle's, and a squared distance.
+    pub fn meeting(&mut self) -> (Obstacle, Leg, Leg, f64) {
+        let obstacle = self.obstacle();
+        let b = self.leg_of(&obstacle);
+        let a = self.agent_leg(b);
+        let limit = self.limit(&obstacle);
+        (obstacle, a, b, limit)
+    }
+
     /// A squared distance: the obstacle's own, or another.
     pub fn limit(&mut self, obstacle: &Obstacle) -> f64 {
         let d = &mut self.dice;

@@ -16,10 +16,7 @@ type Cart = (Profile, Leg);
 pub fn compare(seed: u64, count: u64) -> Report {
     let mut report = Report::default();
     each(seed, count, |drawn| {
-        let obstacle = drawn.obstacle();
-        let b = drawn.leg_of(&obstacle);
-        let a = drawn.agent_leg(b);
-        let limit = drawn.limit(&obstacle);
+        let (obstacle, a, b, limit) = drawn.meeting();
         let len = drawn.room(1);
         let carts = ((drawn.request.scene.agent, a), (obstacle.profile, b));
         ask_once(&mut report, drawn.kind.name(), carts, limit, len);

@@ -13,10 +13,7 @@ use terms::{Leg, Proximity};
 pub fn compare(seed: u64, count: u64) -> Report {
     let mut report = Report::default();
     each(seed, count, |drawn| {
-        let obstacle = drawn.obstacle();
-        let b = drawn.leg_of(&obstacle);
-        let a = drawn.agent_leg(b);
-        let limit = drawn.limit(&obstacle);
+        let (_, a, b, limit) = drawn.meeting();
         let len = drawn.room(3);
         ask_once(&mut report, drawn.kind.name(), (limit, a, b), len);
     });
