@@ -10,7 +10,7 @@ use Rattle.floats.specs.Order.{_≼_}
 use Rattle.floats.specs.Size.{nought, Within}
 use Rattle.floats.specs.Compare.{largerOf, sizeOf}
 use Rattle.floats.specs.Quadratic.{radicand}
-use Rattle.floats.specs.Domain.{widest, still}
+use Rattle.floats.specs.Domain.{widest, still, shortest}
 use Rattle.floats.proofs.Tests.{passed, failed}
 use Rattle.floats.proofs.Preorder.{left-known, right-known}
 use Rattle.floats.proofs.Strict.{not-lt→le}
@@ -25,7 +25,7 @@ use Rattle.shapes.specs.Domain.{isTime, isLimit, isLeg}
 use Rattle.shapes.specs.declared.domain.Examined.the-variants as X
 use Rattle.shapes.specs.declared.waypoint.Leg.{Leg}
 use Rattle.shapes.proofs.Limits.{time-in-reach, limit-within}
-use Rattle.proximity.specs.Range.{rangeStart, rangeEnd, shortest, isShort, nearAt, orElse, shortRange}
+use Rattle.proximity.specs.Range.{rangeStart, rangeEnd, isShort, nearAt, orElse, shortRange}
 use Rattle.proximity.specs.Proximity.{meeting, standing, passage, crossing, longRange, proximityOf}
 use Rattle.proximity.specs.Asked.{legsExamined, askedProximity}
 use Rattle.proximity.specs.declared.quadratic.Meeting.{Meeting}

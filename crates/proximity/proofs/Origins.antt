@@ -10,7 +10,7 @@ use Rattle.floats.specs.Order.{_≼_}
 use Rattle.floats.specs.Size.{nought}
 use Rattle.floats.specs.Compare.{largerOf, sizeOf}
 use Rattle.floats.specs.Quadratic.{radicand, lower, upper}
-use Rattle.floats.specs.Domain.{still}
+use Rattle.floats.specs.Domain.{still, shortest}
 use Rattle.floats.proofs.Tests.{passed, failed}
 use Rattle.floats.proofs.Preorder.{left-known}
 use Rattle.floats.proofs.Strict.{not-lt→le}
@@ -30,7 +30,7 @@ use Rattle.root.specs.declared.nearest.Root.the-variants as R
 use Rattle.shapes.specs.Leg.{holds}
 use Rattle.shapes.specs.declared.waypoint.Leg.{Leg}
 use Rattle.proximity.specs.Quadratic.{meetingFrom}
-use Rattle.proximity.specs.Range.{rangeStart, rangeEnd, shortest, isShort, isNear, nearBy, nearAt, orElse, shortRange}
+use Rattle.proximity.specs.Range.{rangeStart, rangeEnd, isShort, isNear, nearBy, nearAt, orElse, shortRange}
 use Rattle.proximity.specs.Proximity.{spanning, reaching, rooted, meeting}
 use Rattle.proximity.specs.Proximity.{standing, passage, crossing, longRange, proximityOf}
 use Rattle.proximity.specs.declared.motion.Motion.{Motion}

@@ -9,7 +9,7 @@ use lib.Ieee.Fits.{sub-fits}
 use Rattle.floats.specs.Order.{_≼_, Finite}
 use Rattle.floats.specs.Size.{nought, abs, Within}
 use Rattle.floats.specs.Quadratic.{four, radicand, lower, upper}
-use Rattle.floats.specs.Domain.{longest, widest, still, fastest, remotest, largestA, largestB, largestC}
+use Rattle.floats.specs.Domain.{longest, widest, still, fastest, remotest, largestA, largestB, largestC, shortest}
 use Rattle.floats.proofs.Tests.{failed}
 use Rattle.floats.proofs.Strict.{not-lt→le}
 use Rattle.floats.proofs.NotANumber.{finite-known}
@@ -26,7 +26,7 @@ use Rattle.root.proofs.Given.{root-given}
 use Rattle.root.proofs.Meets as N
 use Rattle.root.proofs.Size.{root-fine}
 use Rattle.shapes.specs.declared.waypoint.Leg.{Leg}
-use Rattle.proximity.specs.Range.{rangeStart, rangeEnd, shortest}
+use Rattle.proximity.specs.Range.{rangeStart, rangeEnd}
 use Rattle.proximity.specs.declared.motion.State.{State}
 use Rattle.proximity.specs.declared.quadratic.Quadratic.{Quadratic}
 use Rattle.proximity.proofs.Holding.{starts, ends}

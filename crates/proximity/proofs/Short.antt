@@ -12,6 +12,7 @@ use lib.Signed.{_≤ℤ_, leZ-yes}
 use lib.Ieee
 use lib.Ieee.{lt, le, ofBits}
 use Rattle.floats.specs.Order.{_≼_, _≺_}
+use Rattle.floats.specs.Domain.{shortest}
 use Rattle.floats.proofs.Tests.{is-true}
 use Rattle.floats.proofs.Preorder.{le-trans}
 use Rattle.floats.proofs.Strict.{le-lt-trans, le→not-lt}
@@ -23,7 +24,7 @@ use Rattle.numbers.proofs.Integers.{at-most-trans, difference-mono, difference-
 use Rattle.numbers.proofs.Reach.{size-turned}
 use Rattle.numbers.proofs.Seconds.{seconds-mono, seconds-size}
 use Rattle.shapes.specs.declared.waypoint.Leg.{Leg}
-use Rattle.proximity.specs.Range.{rangeStart, rangeEnd, shortest, isShort}
+use Rattle.proximity.specs.Range.{rangeStart, rangeEnd, isShort}
 
 -- ---- In seconds: those of 99,999 ns are below 1e-4, and those of 100,000 ns are not.
 

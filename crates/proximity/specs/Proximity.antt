@@ -8,7 +8,7 @@ use Rattle.lists.specs.Outcome.{Outcome, Gives, Refuses}
 use Rattle.floats.specs.Size.{nought}
 use Rattle.floats.specs.Compare.{largerOf, sizeOf}
 use Rattle.floats.specs.Quadratic.{radicand, lower, upper}
-use Rattle.floats.specs.Domain.{still}
+use Rattle.floats.specs.Domain.{still, shortest}
 use Rattle.numbers.specs.Word.{wordOf}
 use Rattle.numbers.specs.Time.{spanBetween, instantAfterSeconds, secondsOf}
 use Rattle.numbers.specs.declared.time.TimePoint.{TimePoint}
@@ -22,7 +22,7 @@ use Rattle.root.specs.declared.nearest.Root.{Root}
 use Rattle.root.specs.declared.nearest.Root.the-variants as R
 use Rattle.shapes.specs.declared.waypoint.Leg.{Leg}
 use Rattle.proximity.specs.Quadratic.{meetingFrom}
-use Rattle.proximity.specs.Range.{rangeStart, rangeEnd, shortest, isShort, shortRange}
+use Rattle.proximity.specs.Range.{rangeStart, rangeEnd, isShort, shortRange}
 use Rattle.proximity.specs.declared.quadratic.Quadratic.{Quadratic}
 use Rattle.proximity.specs.declared.quadratic.Meeting.{Meeting}
 use Rattle.proximity.specs.declared.quadratic.Meeting.the-variants as M

@@ -2,9 +2,10 @@
 -- Assumes nothing.
 use mathlib.Core.Bool.{Bool, cond}
 use lib.Ieee
-use lib.Ieee.{Float, binary64, ofBits}
+use lib.Ieee.{Float, binary64}
 use Rattle.floats.specs.Quadratic.{dot}
 use Rattle.floats.specs.Compare.{sizeOf}
+use Rattle.floats.specs.Domain.{shortest}
 use Rattle.numbers.specs.Time.{laterOf, earlierOf, secondsOf}
 use Rattle.numbers.specs.declared.time.TimePoint.{TimePoint}
 use Rattle.numbers.specs.declared.time.Duration.{Duration}
@@ -23,11 +24,7 @@ rangeStart agent obstacle = laterOf (agent .start .time) (obstacle .start .time)
 abbrev pub rangeEnd : Leg → Leg → TimePoint
 rangeEnd agent obstacle = earlierOf (agent .end .time) (obstacle .end .time)
 
--- 1e-4, in seconds: 100,000 ns.
-abbrev pub shortest : Float
-shortest = ofBits binary64 0x3f1a_36e2_eb1c_432d
-
--- Under 100,000 ns, gaps included (RULES 8.6).
+-- Under 100,000 ns, which is 1e-4 s, gaps included (RULES 8.6).
 abbrev pub isShort : Duration → Bool
 isShort d = Ieee.lt (sizeOf (secondsOf (d .0))) shortest
 
