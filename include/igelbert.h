@@ -106,6 +106,18 @@ uint64_t igelbert_is_safe_segment(double footprint, double follow, int64_t t0, d
     const double *xs, size_t xs_len, const double *ys, size_t ys_len, uint64_t *out,
     size_t out_len);
 
+/* Where the agent may wait on its leg among the obstacles of such a table, and until when: the count
+ * of hints, at most 64, then six words each, ranked by contour and reach: contour, reach (a double),
+ * x and y (doubles), the instant until which to wait, the obstacle's number (docs/RULES.md, sections
+ * 10 and 11). A room of 385 words is enough. Refused 4: the leg lasts under 10 ns, is shorter than
+ * 1e-8, or meets an obstacle's leg that has no direction; 7: a time or a place went too far; 10: there
+ * are more than 64 hints. */
+uint64_t igelbert_wait_hints(double footprint, double follow, int64_t t0, double x0, double y0,
+    int64_t t1, double x1, double y1, const size_t *starts, size_t starts_len,
+    const double *numbers, size_t numbers_len, const int64_t *times, size_t times_len,
+    const double *xs, size_t xs_len, const double *ys, size_t ys_len, uint64_t *out,
+    size_t out_len);
+
 #ifdef __cplusplus
 }
 #endif

@@ -4,7 +4,7 @@ use lib.IntN.{ℤ}
 use lib.Ieee.{Float}
 use Rattle.shapes.specs.declared.profile.CircularProfile.{CircularProfile}
 use Rattle.shapes.specs.declared.waypoint.Leg.{Leg}
-use Rattle.shapes.specs.declared.waypoint.Vector.{Vector}
+use Rattle.shapes.specs.declared.vector.Vector.{Vector}
 
 -- The leg from (x0, y0) at t0 to (x1, y1) at t1.
 abbrev pub legOf : ℤ → Float → Float → ℤ → Float → Float → Leg

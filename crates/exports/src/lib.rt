@@ -1,4 +1,6 @@
 // The calls for C and Rust, one for each public call of the layers, as include/igelbert.h describes them.
+pub mod hint_calls;
+pub mod line_calls;
 pub mod proximity_calls;
 pub mod roots;
 pub mod segment_calls;

@@ -1,16 +1,14 @@
-// Motion, proximity, conflict and stationary proximity: legs, profiles and places come as plain numbers.
+// Motion, proximity and conflict: legs and profiles come as plain numbers.
 use crate::shape_calls;
 use handing::proximity_words;
 use numbers::time::TimePoint;
 use proximity::calls;
 use shapes::profile::CircularProfile;
-use shapes::waypoint::Vector;
 ghost use Rattle.lists.specs.Outcome.{Handed};
 ghost use Rattle.proximity.specs.Proximity.{proximityOutcome};
 ghost use Rattle.proximity.specs.Conflict.{verdictOutcome};
-ghost use Rattle.proximity.specs.Stationary.{stayOutcome};
-ghost use Rattle.proximity.specs.Asked.{askedPosition, askedProximity, askedConflict, askedStationary, positionOutcome};
-ghost use Rattle.exports.specs.Plain.{legOf, profileOf, vectorOf};
+ghost use Rattle.proximity.specs.Asked.{askedPosition, askedProximity, askedConflict, positionOutcome};
+ghost use Rattle.exports.specs.Plain.{legOf, profileOf};
 
 // Where a leg of the agent's is at the instant t, and how fast it goes.
 #[no_mangle]
@@ -87,24 +85,4 @@ pub extern "C" fn igelbert_have_conflict(
     };
     let obstacle = shape_calls::leg_of(t2, x2, y2, t3, x3, y3);
     proximity_words::give_verdict(calls::conflict(p, agent, q, obstacle, limit), out)
-}
-
-// When something that goes from (px, py) by (vx, vy) is within a squared distance of (rx, ry), in seconds.
-#[no_mangle]
-pub extern "C" fn igelbert_stationary_proximity(
-    rx: f64,
-    ry: f64,
-    px: f64,
-    py: f64,
-    vx: f64,
-    vy: f64,
-    limit: f64,
-    out: &mut [u64],
-) -> u64
-    ensures { λ r. ⌜ Handed (stayOutcome (askedStationary (vectorOf rx ry) (vectorOf px py) (vectorOf vx vy) limit)) (now (out .entry)) (now (out .exit)) r ⌝ }
-{
-    let r = Vector { x: rx, y: ry };
-    let p0 = Vector { x: px, y: py };
-    let v = Vector { x: vx, y: vy };
-    proximity_words::give_stay(calls::stationary_proximity(r, p0, v, limit), out)
 }

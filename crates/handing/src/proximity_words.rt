@@ -1,14 +1,14 @@
 // Positions, proximity, verdicts and stationary proximity.
+use lines::stationary::Stay;
 use lists::words;
 use numbers::word;
 use proximity::calls::Whereabouts;
 use proximity::conflict::Verdict;
 use proximity::detect::Proximity;
-use proximity::stationary::Stay;
 ghost use Rattle.lists.specs.Outcome.{Handed};
 ghost use Rattle.proximity.specs.Proximity.{proximityOutcome};
 ghost use Rattle.proximity.specs.Conflict.{verdictOutcome};
-ghost use Rattle.proximity.specs.Stationary.{stayOutcome};
+ghost use Rattle.lines.specs.Stationary.{stayOutcome};
 ghost use Rattle.proximity.specs.Asked.{positionOutcome};
 
 pub fn give_position(p: Whereabouts, out: &mut [u64]) -> u64

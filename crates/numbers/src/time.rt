@@ -96,6 +96,13 @@ impl TimePoint {
         self.plus(d)
     }
 
+    // Whether it is at most 2^53 ns in size, as every instant must be that a call works out.
+    pub fn is_in_reach(self) -> bool
+        ensures { λ r. ⌜ r ≡ inReach (self .0) ⌝ }
+    {
+        in_reach(self.0)
+    }
+
     // Whether this instant comes before another.
     pub fn is_before(self, other: TimePoint) -> bool
         ensures { λ r. ⌜ r ≡ ltZ (self .0) (other .0) ⌝ }
@@ -138,6 +145,13 @@ impl TimePoint {
 }
 
 impl Duration {
+    // Whether it is at most 2^53 ns in size, as every span must be that a call works out.
+    pub fn is_in_reach(self) -> bool
+        ensures { λ r. ⌜ r ≡ inReach (self .0) ⌝ }
+    {
+        in_reach(self.0)
+    }
+
     // Whether this span is below another, by the sign too.
     pub fn is_below(self, other: Duration) -> bool
         ensures { λ r. ⌜ r ≡ ltZ (self .0) (other .0) ⌝ }

@@ -7,6 +7,7 @@ use lib.Dec.{ltb}
 use lib.ListN.{length, getD, set}
 use lib.Ieee.{Float}
 use Rattle.floats.specs.Size.{nought}
+use Rattle.shapes.specs.Box.{overlap}
 use Rattle.shapes.specs.declared.bounding_box.BoundingBox.{BoundingBox}
 use Rattle.obstacles.specs.Lent.{Lent, boxOf}
 
@@ -35,3 +36,7 @@ withBoxes lent (suc n) o boxes = withBoxes lent n (suc o) (withBox boxes o (boxO
 -- The list with the boxes of all.
 unfoldable pub boxesOf : Lent → List Float → List Float
 boxesOf lent boxes = withBoxes lent (length (lent .starts)) 0 boxes
+
+-- Where the walk over an obstacle's waypoints ends: at its last one, and at 0 where the boxes do not overlap.
+abbrev pub lastIn : BoundingBox → BoundingBox → ℕ → ℕ
+lastIn bounds around end = cond (overlap bounds around) (end - 1) 0

@@ -9,6 +9,7 @@ use Rattle.lists.specs.Listed.{listedTo}
 use Rattle.floats.specs.Size.{nought}
 use Rattle.shapes.specs.declared.bounding_box.BoundingBox.{BoundingBox}
 use Rattle.shapes.specs.declared.profile.CircularProfile.{CircularProfile}
+use Rattle.shapes.specs.declared.waypoint.Leg.{Leg}
 use Rattle.shapes.specs.declared.waypoint.Waypoint.{Waypoint}
 use Rattle.obstacles.specs.Obstacle.{Obstacle, boxOfTrajectory}
 
@@ -37,6 +38,10 @@ limitIn numbers o = getD numbers (3 * o + 2) nought
 -- Waypoint i of the table. What a list does not reach is zero.
 abbrev pub waypointIn : List ℤ → List Float → List Float → ℕ → Waypoint
 waypointIn times xs ys i = record { time = record { 0 = getD times i (pos 0) }; x = getD xs i nought; y = getD ys i nought }
+
+-- The leg from waypoint i of the table to the next.
+abbrev pub legIn : List ℤ → List Float → List Float → ℕ → Leg
+legIn times xs ys i = record { start = waypointIn times xs ys i; end = waypointIn times xs ys (i + 1) }
 
 -- The waypoints of obstacle o: from its start up to the next one's.
 unfoldable pub waypointsOf : Lent → ℕ → List Waypoint

@@ -5,7 +5,7 @@ ghost use mathlib.Core.Path.{_≡_};
 ghost use Rattle.lists.specs.Listed.{listedTo};
 ghost use Rattle.obstacles.specs.Lent.{lentOf, waypointIn};
 ghost use Rattle.obstacles.specs.Obstacle.{boxOfTrajectory};
-ghost use Rattle.obstacles.specs.Boxes.{boxIn, withBox, boxesOf};
+ghost use Rattle.obstacles.specs.Boxes.{boxIn, withBox, boxesOf, lastIn};
 
 // The box of the waypoints from `from` up to `to`, grown by the footprint.
 pub fn for_trajectory(
@@ -92,4 +92,18 @@ pub fn put_boxes(
         put_box(boxes, o, b);
         o += 1;
     }
+}
+
+// The last of an obstacle's waypoints, which end before `end`: where its walk ends. It is 0, so that none is walked, where the
+// obstacle's box does not overlap the agent's.
+pub fn last_of(bounds: BoundingBox, around: BoundingBox, end: usize) -> usize
+    ensures { λ r. ⌜ r ≡ lastIn bounds around end ⌝ }
+{
+    if !bounds.overlaps(around) {
+        return 0;
+    }
+    if end == 0 {
+        return 0;
+    }
+    end - 1
 }

@@ -10,5 +10,4 @@ pub mod Arrivals
 pub mod Apart
 pub mod Roots
 pub mod OnDomain
-pub mod StationaryGiven
 mod Else

@@ -1,22 +1,20 @@
 -- What the calls answer: each examines its own input first (RULES 5.1 to 5.4, 5.11).
 -- Assumes nothing.
-use mathlib.Core.Bool.{Bool, cond, _&&_}
+use mathlib.Core.Bool.{cond, _&&_}
 use mathlib.Core.List.{[], _∷_}
 use lib.Ieee.{Float, binary64, toBits}
 use Rattle.lists.specs.Outcome.{Outcome, Gives, Refuses}
 use Rattle.numbers.specs.declared.time.TimePoint.{TimePoint}
 use Rattle.shapes.specs.Leg.{isBackward, isRising}
 use Rattle.shapes.specs.Box.{boxOfLeg}
-use Rattle.shapes.specs.Domain.{isTime, isPlace, isSpeed, isLimit, isLeg, isProfile}
+use Rattle.shapes.specs.Domain.{isTime, isLimit, isLeg, isProfile}
 use Rattle.shapes.specs.declared.domain.Examined.{Examined}
 use Rattle.shapes.specs.declared.domain.Examined.the-variants as X
 use Rattle.shapes.specs.declared.profile.CircularProfile.{CircularProfile}
 use Rattle.shapes.specs.declared.waypoint.Leg.{Leg}
-use Rattle.shapes.specs.declared.waypoint.Vector.{Vector}
 use Rattle.proximity.specs.Motion.{motionAt}
 use Rattle.proximity.specs.Proximity.{proximityOf}
 use Rattle.proximity.specs.Conflict.{conflictOf}
-use Rattle.proximity.specs.Stationary.{stationaryProximity}
 use Rattle.proximity.specs.declared.motion.Motion.{Motion}
 use Rattle.proximity.specs.declared.motion.Motion.the-variants as M
 use Rattle.proximity.specs.declared.calls.Whereabouts.{Whereabouts}
@@ -25,8 +23,6 @@ use Rattle.proximity.specs.declared.detect.Proximity.{Proximity}
 use Rattle.proximity.specs.declared.detect.Proximity.the-variants as P
 use Rattle.proximity.specs.declared.conflict.Verdict.{Verdict}
 use Rattle.proximity.specs.declared.conflict.Verdict.the-variants as W
-use Rattle.proximity.specs.declared.stationary.Stay.{Stay}
-use Rattle.proximity.specs.declared.stationary.Stay.the-variants as S
 
 -- A leg of the agent's at an instant: 1 for its numbers, 3 where it runs backward, then the work.
 unfoldable pub askedPosition : Leg → TimePoint → Whereabouts
@@ -68,13 +64,6 @@ askedConflict p agent q obstacle limit = examined (cartsExamined p q limit agent
     examined : Examined → Verdict
     examined X.Fine = conflictOf agent (boxOfLeg (p .footprint) agent) obstacle (boxOfLeg (q .footprint) obstacle) limit
     examined (X.Refused n) = W.Refused n
-
--- Places, a velocity and a squared distance: 1 for the numbers (RULES 3.2, 3.4, 3.8).
-unfoldable pub isStay : Vector → Vector → Vector → Float → Bool
-isStay r p0 v limit = isPlace r && (isPlace p0 && (isSpeed (v .x) && (isSpeed (v .y) && isLimit limit)))
-
-unfoldable pub askedStationary : Vector → Vector → Vector → Float → Stay
-askedStationary r p0 v limit = cond (isStay r p0 v limit) (stationaryProximity r p0 v limit) S.Refused
 
 -- The number and the words of a position: whether there is one, the place and the velocity.
 abbrev pub positionOutcome : Whereabouts → Outcome

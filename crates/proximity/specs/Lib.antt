@@ -3,5 +3,4 @@ pub mod Quadratic
 pub mod Range
 pub mod Proximity
 pub mod Conflict
-pub mod Stationary
 pub mod Asked

@@ -10,7 +10,7 @@ use Rattle.numbers.specs.declared.time.Span.{Span}
 use Rattle.numbers.specs.declared.time.Span.the-variants as S
 use Rattle.shapes.specs.Leg.{holds}
 use Rattle.shapes.specs.declared.waypoint.Leg.{Leg}
-use Rattle.shapes.specs.declared.waypoint.Vector.{Vector}
+use Rattle.shapes.specs.declared.vector.Vector.{Vector}
 use Rattle.proximity.specs.declared.motion.Motion.{Motion}
 use Rattle.proximity.specs.declared.motion.Motion.the-variants.{At, Outside, Strayed}
 

@@ -10,7 +10,7 @@ use Rattle.numbers.specs.Time.{laterOf, earlierOf, secondsOf}
 use Rattle.numbers.specs.declared.time.TimePoint.{TimePoint}
 use Rattle.numbers.specs.declared.time.Duration.{Duration}
 use Rattle.shapes.specs.declared.waypoint.Leg.{Leg}
-use Rattle.shapes.specs.declared.waypoint.Vector.{Vector}
+use Rattle.shapes.specs.declared.vector.Vector.{Vector}
 use Rattle.proximity.specs.Motion.{motionAt}
 use Rattle.proximity.specs.declared.motion.Motion.{Motion}
 use Rattle.proximity.specs.declared.motion.Motion.the-variants.{At, Outside, Strayed}

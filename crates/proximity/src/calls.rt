@@ -1,4 +1,4 @@
-// The calls for motion, proximity, conflict and stationary proximity: each examines its own input, then does the work
+// The calls for motion, proximity and conflict: each examines its own input, then does the work
 // (docs/RULES.md, 5.1 to 5.4 and 5.11).
 use crate::conflict;
 use crate::conflict::Verdict;
@@ -7,17 +7,14 @@ use crate::detect::Proximity;
 use crate::motion;
 use crate::motion::Motion;
 use crate::motion::State;
-use crate::stationary;
-use crate::stationary::Stay;
 use numbers::time::TimePoint;
 use shapes::bounding_box::BoundingBox;
 use shapes::domain;
 use shapes::domain::Examined;
 use shapes::profile::CircularProfile;
 use shapes::waypoint::Leg;
-use shapes::waypoint::Vector;
 ghost use mathlib.Core.Path.{_≡_};
-ghost use Rattle.proximity.specs.Asked.{askedPosition, legsExamined, askedProximity, cartsExamined, askedConflict, isStay, askedStationary};
+ghost use Rattle.proximity.specs.Asked.{askedPosition, legsExamined, askedProximity, cartsExamined, askedConflict};
 
 // A leg at an instant: its state, that it is nowhere then, or a refusal and its number.
 pub enum Whereabouts {
@@ -121,33 +118,4 @@ pub fn conflict(
             conflict::have_conflict(agent, agent_box, obstacle, obstacle_box, limit)
         }
     }
-}
-
-// Whether the numbers of a stationary proximity are in the table.
-fn is_stay(r: Vector, p0: Vector, v: Vector, limit: f64) -> bool
-    ensures { λ b. ⌜ b ≡ isStay r p0 v limit ⌝ }
-{
-    if !domain::is_place(r) {
-        return false;
-    }
-    if !domain::is_place(p0) {
-        return false;
-    }
-    if !domain::is_speed(v.x) {
-        return false;
-    }
-    if !domain::is_speed(v.y) {
-        return false;
-    }
-    domain::is_limit(limit)
-}
-
-// When something that goes from p0 by v is within a distance of the place r.
-pub fn stationary_proximity(r: Vector, p0: Vector, v: Vector, limit: f64) -> Stay
-    ensures { λ s. ⌜ s ≡ askedStationary r p0 v limit ⌝ }
-{
-    if !is_stay(r, p0, v, limit) {
-        return Stay::Refused;
-    }
-    stationary::compute_stationary_proximity(r, p0, v, limit)
 }

@@ -4,4 +4,3 @@ pub mod conflict;
 pub mod detect;
 pub mod motion;
 pub mod quadratic;
-pub mod stationary;

@@ -22,7 +22,8 @@ use Rattle.obstacles.specs.Obstacle.{legsOf}
 use Rattle.obstacles.specs.Lent.{Lent, startIn, profileIn, limitIn, waypointIn, waypointsOf, obstacleIn}
 use Rattle.obstacles.proofs.Legs.{legs-next, legs-done}
 use Rattle.obstacles.proofs.Reading.{waypoints-read}
-use Rattle.segments.specs.Segment.{legVerdict, orElse, firstOf, obstacleVerdict, lastIn}
+use Rattle.obstacles.specs.Boxes.{lastIn}
+use Rattle.segments.specs.Segment.{legVerdict, orElse, firstOf, obstacleVerdict}
 
 -- What the `else` of `let Verdict::Clear = v else` knows of v.
 abbrev pub Ends : Verdict → Type 0

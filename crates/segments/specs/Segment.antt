@@ -1,6 +1,5 @@
 -- Whether a segment is safe among obstacles (RULES 9.7 to 9.11).
 -- Assumes nothing.
-use Prim.Native.Nat.{ℕ, _-_}
 use mathlib.Core.Bool.{Bool, cond, not, _&&_}
 use mathlib.Core.List.{List, [], _∷_}
 use lib.Signed.{ltZ}
@@ -44,7 +43,3 @@ obstacleVerdict agent bounds o =
 -- All obstacles, in order: clear where the segment is safe (RULES 9.8 to 9.10).
 unfoldable pub segmentOf : Leg → BoundingBox → List Obstacle → Verdict
 segmentOf agent bounds obstacles = firstOf (obstacleVerdict agent bounds) obstacles
-
--- Where the walk over an obstacle's waypoints ends: at its last one, and at 0 where the boxes do not overlap.
-abbrev pub lastIn : BoundingBox → BoundingBox → ℕ → ℕ
-lastIn bounds box end = cond (overlap bounds box) (end - 1) 0

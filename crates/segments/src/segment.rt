@@ -8,7 +8,7 @@ use shapes::waypoint::Leg;
 ghost use mathlib.Core.Path.{_≡_};
 ghost use Rattle.obstacles.specs.Lent.{lentOf, obstaclesWith};
 ghost use Rattle.obstacles.specs.Boxes.{boxIn};
-ghost use Rattle.segments.specs.Segment.{isDuring, legVerdict, lastIn, segmentOf};
+ghost use Rattle.segments.specs.Segment.{isDuring, legVerdict, segmentOf};
 
 // Whether a leg is among those of the agent's times: it ends at or after the agent's start and starts at or before its end.
 fn is_during(agent: Leg, leg: Leg) -> bool
@@ -34,20 +34,6 @@ fn leg_verdict(agent: Leg, bounds: BoundingBox, footprint: f64, limit: f64, leg:
     conflict::have_conflict(agent, bounds, leg, around, limit)
 }
 
-// The last of an obstacle's waypoints, which end before `end`: where its walk ends. It is 0, so that none is walked, where the
-// obstacle's box does not overlap the agent's.
-fn last_of(bounds: BoundingBox, around: BoundingBox, end: usize) -> usize
-    ensures { λ r. ⌜ r ≡ lastIn bounds around end ⌝ }
-{
-    if !bounds.overlaps(around) {
-        return 0;
-    }
-    if end == 0 {
-        return 0;
-    }
-    end - 1
-}
-
 // Whether no leg of any obstacle, taken in order, is in conflict with the agent's. The first that is ends the whole walk.
 pub fn is_safe_segment(
     agent: Leg,
@@ -68,7 +54,7 @@ pub fn is_safe_segment(
         let limit = table::limit_at(numbers, o);
         let around = boxes::box_at(boxes, o);
         let end = table::start_of(starts, times.len(), o + 1);
-        let last = last_of(bounds, around, end);
+        let last = boxes::last_of(bounds, around, end);
         let mut i = starts[o];
         while i < last {
             let leg = table::leg_at(times, xs, ys, i, i + 1);

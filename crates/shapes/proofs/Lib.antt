@@ -1,3 +1,4 @@
 pub mod Limits
+pub mod Vectors
 pub mod Distance
 pub mod Overlap

@@ -14,8 +14,11 @@ use Rattle.floats.specs.Order.{_≼_, Finite}
 use Rattle.floats.specs.Size.{nought, Within}
 use Rattle.floats.specs.Compare.{isBetween}
 use Rattle.floats.specs.Domain.{farthest, widest}
-use Rattle.floats.proofs.Tests.{passed}
-use Rattle.floats.proofs.Bounds.{within-of-bounds, within-of-upper, within-le, within-finite, within-add, within-mul}
+use Rattle.floats.proofs.Tests.{passed, is-true}
+use Rattle.floats.proofs.Preorder.{le-trans}
+use Rattle.floats.proofs.Signs.{square-not-below}
+use Rattle.floats.proofs.Bounds.{within-of-bounds, within-of-upper, within-lower, within-upper, within-le, within-known}
+use Rattle.floats.proofs.Bounds.{within-finite, within-add, within-mul}
 use Rattle.floats.proofs.Larger.{larger-within}
 use Rattle.numbers.specs.Time.{inReach}
 use Rattle.numbers.specs.declared.time.TimePoint.{TimePoint}
@@ -82,6 +85,10 @@ ends lo hi x e =
     let held = both (Ieee.le lo x) (Ieee.le x hi) e in
     (passed (held .0), passed (held .1))
 
+between : (lo hi x : Float) → lo ≼ x → x ≼ hi → isBetween lo hi x ≡ true
+unfolding isBetween
+between lo hi x l h = rw (is-true (Ieee.le lo x) l, is-true (Ieee.le x hi) h)
+
 -- From -c to c, and from 0 to c.
 around : (c x : Float) → isBetween (Ieee.neg c) c x ≡ true → Within c x
 around c x e =
@@ -93,24 +100,37 @@ up-to c x e =
     let h = ends nought c x e in
     within-of-upper c x (h .0) (h .1)
 
-pub coordinate-within : (x : Float) → isCoordinate x ≡ true → Within farthest x
+-- 10,000 m, the most of a coordinate.
+abbrev pub tenThousand : Float
+tenThousand = Ieee.ofInt binary64 (pos 10000)
+
+pub coordinate-at-most : (x : Float) → isCoordinate x ≡ true → Within tenThousand x
 unfolding isCoordinate
-coordinate-within x e =
-    within-le farthest (around (Ieee.ofInt binary64 (pos 10000)) x e) (unfold Ieee.le Ieee.ofInt in tt)
+coordinate-at-most x e = around tenThousand x e
+
+pub coordinate-within : (x : Float) → isCoordinate x ≡ true → Within farthest x
+coordinate-within x e = within-le farthest (coordinate-at-most x e) (unfold Ieee.le Ieee.ofInt in tt)
 
 pub limit-within : (x : Float) → isLimit x ≡ true → Within widest x
 unfolding isLimit
 limit-within x e =
     within-le widest (up-to (Ieee.ofInt binary64 (pos 1000000)) x e) (unfold Ieee.le Ieee.ofInt in tt)
 
--- 2^47, just above the 10^14 of a velocity's coordinate.
+-- 10^14 m/s, the most of a velocity's coordinate, and 2^47, just above it.
+abbrev pub topSpeed : Float
+topSpeed = Ieee.ofInt binary64 (pos (10 ^ 14))
+
 abbrev pub swiftest : Float
 swiftest = fin false 1 (pos 47)
 
 pub speed-within : (x : Float) → isSpeed x ≡ true → Within swiftest x
 unfolding isSpeed
-speed-within x e =
-    within-le swiftest (around (Ieee.ofInt binary64 (pos (10 ^ 14))) x e) (unfold Ieee.le Ieee.ofInt in tt)
+speed-within x e = within-le swiftest (around topSpeed x e) (unfold Ieee.le Ieee.ofInt in tt)
+
+-- What is at most 10^14 in size is in the table (RULES 3.8).
+pub within-speed : {x : Float} → Within topSpeed x → isSpeed x ≡ true
+unfolding isSpeed
+within-speed {x} h = between (Ieee.neg topSpeed) topSpeed x (within-lower h) (within-upper h)
 
 -- 100 m, the most of a radius.
 abbrev hundred : Float
@@ -146,3 +166,15 @@ unfolding criticalDistanceSquared Ieee.ofInt Ieee.mul
 critical-squared-within p q hp hq =
     let h = critical-within p q hp hq in
     within-le widest (within-mul binary64 h h tt tt) (unfold Ieee.le in tt)
+
+-- So it is a limit of the table: the D2 of the hints (RULES 3.4, 10.6).
+pub critical-squared-limit : (p q : CircularProfile) →
+    isProfile p ≡ true → isProfile q ≡ true → isLimit (criticalDistanceSquared p q) ≡ true
+unfolding isLimit criticalDistanceSquared
+critical-squared-limit p q hp hq =
+    let d = criticalDistance p q in
+    let d2 = Ieee.mul binary64 d d in
+    let most = Ieee.ofInt binary64 (pos 1000000) in
+    let known = within-known (critical-within p q hp hq) in
+    let upper = within-upper (critical-squared-within p q hp hq) in
+    between nought most d2 (square-not-below binary64 d known) (le-trans d2 widest most upper (unfold Ieee.le Ieee.ofInt in tt))

@@ -1,3 +1,4 @@
+pub mod Vector
 pub mod Leg
 pub mod Distance
 pub mod Box

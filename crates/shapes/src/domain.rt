@@ -1,8 +1,8 @@
 // What each number of a call may be: the table of the domain, a test for each row (docs/RULES.md, section 3).
 use crate::bounding_box::BoundingBox;
 use crate::profile::CircularProfile;
+use crate::vector::Vector;
 use crate::waypoint::Leg;
-use crate::waypoint::Vector;
 use crate::waypoint::Waypoint;
 use floats::comparison;
 use numbers::time::TimePoint;

@@ -3,4 +3,5 @@ pub mod bounding_box;
 pub mod calls;
 pub mod domain;
 pub mod profile;
+pub mod vector;
 pub mod waypoint;

@@ -94,6 +94,28 @@ extern "C" {
         out: *mut u64,
         out_len: usize,
     ) -> u64;
+    fn igelbert_wait_hints(
+        footprint: f64,
+        follow: f64,
+        t0: i64,
+        x0: f64,
+        y0: f64,
+        t1: i64,
+        x1: f64,
+        y1: f64,
+        starts: *const usize,
+        starts_len: usize,
+        numbers: *const f64,
+        numbers_len: usize,
+        times: *const i64,
+        times_len: usize,
+        xs: *const f64,
+        xs_len: usize,
+        ys: *const f64,
+        ys_len: usize,
+        out: *mut u64,
+        out_len: usize,
+    ) -> u64;
     fn igelbert_critical_distance(
         footprint: f64,
         follow: f64,
@@ -296,6 +318,33 @@ pub fn have_conflict(
 pub fn is_safe_segment(p: Profile, (a, b): Leg, table: &Table, out: &mut [u64]) -> u64 {
     unsafe {
         igelbert_is_safe_segment(
+            p.footprint,
+            p.follow,
+            a.time,
+            a.x,
+            a.y,
+            b.time,
+            b.x,
+            b.y,
+            table.starts.as_ptr(),
+            table.starts.len(),
+            table.numbers.as_ptr(),
+            table.numbers.len(),
+            table.times.as_ptr(),
+            table.times.len(),
+            table.xs.as_ptr(),
+            table.xs.len(),
+            table.ys.as_ptr(),
+            table.ys.len(),
+            out.as_mut_ptr(),
+            out.len(),
+        )
+    }
+}
+
+pub fn wait_hints(p: Profile, (a, b): Leg, table: &Table, out: &mut [u64]) -> u64 {
+    unsafe {
+        igelbert_wait_hints(
             p.footprint,
             p.follow,
             a.time,

@@ -2,6 +2,7 @@
 
 pub mod boxes;
 pub mod conflict;
+pub mod hints;
 pub mod positions;
 pub mod profiles;
 pub mod proximity;
@@ -54,5 +55,9 @@ pub const ALL: &[Layer] = &[
     Layer {
         name: "stationary",
         compare: stationary::compare,
+    },
+    Layer {
+        name: "hints",
+        compare: hints::compare,
     },
 ];

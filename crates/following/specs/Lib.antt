@@ -1,0 +1,3 @@
+pub mod Chase
+pub mod Rounds
+pub mod Follow

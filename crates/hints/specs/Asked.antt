@@ -1,0 +1,22 @@
+-- What the call for hints alone answers: the table and the agent are examined first (RULES 4.13, 5.1 to 5.7).
+-- Assumes nothing.
+use mathlib.Core.Bool.{cond}
+use Rattle.shapes.specs.Box.{boxOfLeg}
+use Rattle.shapes.specs.Leg.{isBrief}
+use Rattle.shapes.specs.declared.domain.Examined.{Examined}
+use Rattle.shapes.specs.declared.domain.Examined.the-variants as X
+use Rattle.shapes.specs.declared.profile.CircularProfile.{CircularProfile}
+use Rattle.shapes.specs.declared.waypoint.Leg.{Leg}
+use Rattle.obstacles.specs.Lent.{Lent, obstaclesOf}
+use Rattle.obstacles.specs.Examined.{agentExamined}
+use Rattle.ranking.specs.Hints.{refusedBy}
+use Rattle.ranking.specs.declared.ranked_hints.RankedHints.{RankedHints}
+use Rattle.hints.specs.Contour.{rankedHints}
+
+-- 4 for a duration under 10 ns, then the hints of the agent's leg in the box of its own footprint.
+unfoldable pub askedHints : CircularProfile → Leg → Lent → RankedHints
+askedHints p agent lent = examined (agentExamined p agent lent)
+  where
+    examined : Examined → RankedHints
+    examined X.Fine = cond (isBrief agent) (refusedBy 4) (rankedHints p agent (boxOfLeg (p .footprint) agent) (obstaclesOf lent))
+    examined (X.Refused n) = refusedBy n

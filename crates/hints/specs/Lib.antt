@@ -1,0 +1,4 @@
+pub mod LegHints
+pub mod Walk
+pub mod Contour
+pub mod Asked

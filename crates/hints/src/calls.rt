@@ -1,0 +1,69 @@
+// The call for hints alone: it examines its own input, then does the work (docs/RULES.md, 4.13 and 5.1 to 5.7).
+use crate::path_hints;
+use obstacles::boxes;
+use obstacles::examine;
+use ranking::ranked_hints::RankedHints;
+use shapes::bounding_box::BoundingBox;
+use shapes::domain::Examined;
+use shapes::profile::CircularProfile;
+use shapes::waypoint::Leg;
+ghost use mathlib.Core.Path.{_≡_};
+ghost use Prim.Native.Nat.{_≤_};
+ghost use lib.ListN.{length};
+ghost use Rattle.shapes.specs.Box.{boxOfLeg};
+ghost use Rattle.obstacles.specs.Lent.{lentOf, obstaclesOf};
+ghost use Rattle.hints.specs.Contour.{rankedHints};
+ghost use Rattle.hints.specs.Asked.{askedHints};
+
+// The answer for a table of at most 32 obstacles, whose boxes are worked out once.
+fn among(
+    p: CircularProfile,
+    agent: Leg,
+    starts: &[usize],
+    numbers: &[f64],
+    times: &[i64],
+    xs: &[f64],
+    ys: &[f64],
+) -> RankedHints
+    requires { ⌜ length (now starts) ≤ 32 ⌝ }
+    ensures { λ r. ⌜ r ≡ rankedHints p agent (boxOfLeg (p .footprint) agent) (obstaclesOf (lentOf (now (starts .entry)) (now (numbers .entry)) (now (times .entry)) (now (xs .entry)) (now (ys .entry)))) ⌝ }
+{
+    let mut boxes = [0.0; 128];
+    boxes::put_boxes(starts, numbers, times, xs, ys, &mut boxes);
+    let bounds = BoundingBox::for_line(p.footprint, agent);
+    path_hints::compute_safe_linear_path_wait_hints(
+        p,
+        agent,
+        bounds,
+        starts,
+        numbers,
+        times,
+        xs,
+        ys,
+        &boxes,
+    )
+}
+
+// The ranked hints for the agent's leg, in the box of its own footprint, among the obstacles of a lent table.
+pub fn wait_hints(
+    p: CircularProfile,
+    agent: Leg,
+    starts: &[usize],
+    numbers: &[f64],
+    times: &[i64],
+    xs: &[f64],
+    ys: &[f64],
+) -> RankedHints
+    ensures { λ r. ⌜ r ≡ askedHints p agent (lentOf (now (starts .entry)) (now (numbers .entry)) (now (times .entry)) (now (xs .entry)) (now (ys .entry))) ⌝ }
+{
+    let input = examine::examine(p, agent, starts, numbers, times, xs, ys);
+    match input {
+        Examined::Refused(n) => RankedHints::refused_by(n),
+        Examined::Fine => {
+            if agent.is_brief() {
+                return RankedHints::refused_by(4);
+            }
+            among(p, agent, starts, numbers, times, xs, ys)
+        }
+    }
+}

@@ -1,0 +1,2 @@
+pub mod StationaryGiven
+pub mod OnDomain

@@ -1,0 +1,5 @@
+pub mod Stationary
+pub mod Norm
+pub mod NearLine
+pub mod Course
+pub mod Asked

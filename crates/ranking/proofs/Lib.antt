@@ -1,0 +1,9 @@
+pub mod Before
+mod Those
+mod Sorted
+mod Inserted
+pub mod Theorems
+pub mod Held
+mod Places
+pub mod OneByOne
+pub mod Lending

@@ -1,0 +1,3 @@
+pub mod Ranked
+pub mod Hints
+pub mod Lent

@@ -1,0 +1,4 @@
+pub mod Parts
+pub mod Crossing
+pub mod Standing
+pub mod Oncoming

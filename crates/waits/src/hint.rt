@@ -1,0 +1,30 @@
+// A hint, as `WaitHint` of the Rust, and what a part of the search for hints answers (docs/RULES.md, 10.40).
+use floats::comparison;
+use numbers::time::TimePoint;
+use shapes::vector::Vector;
+ghost use mathlib.Core.Path.{_≡_};
+ghost use Rattle.waits.specs.Hint.{isPlaced};
+
+// A place on the agent's line, the instant until which to wait there, and the number of the obstacle that is waited for.
+pub struct WaitHint {
+    pub place: Vector,
+    pub until: TimePoint,
+    pub obstacle: usize,
+}
+
+// Where to wait and until when, that there is nothing to wait for, or a refusal and its number.
+pub enum Wait {
+    At(Vector, TimePoint),
+    Nothing,
+    Refused(u64),
+}
+
+// Whether a place is one that a hint may have: no coordinate is past 1,000,000 in size.
+pub fn is_placed(p: Vector) -> bool
+    ensures { λ r. ⌜ r ≡ isPlaced p ⌝ }
+{
+    if !comparison::is_between(-1000000.0, 1000000.0, p.x) {
+        return false;
+    }
+    comparison::is_between(-1000000.0, 1000000.0, p.y)
+}

@@ -1,0 +1,179 @@
+//! The ranked hints of a leg of the agent's among all obstacles (RULES, sections 10 and 11): every
+//! field of every hint by its bits, and their order. Where contour and reach are both equal the
+//! Rust's order is open (RULES 11.7); there its own order of finding decides.
+
+use crate::draw::{each, Drawn};
+use crate::proved;
+use crate::report::Report;
+use crate::room::{lend, Expected};
+use crate::table::Table;
+use mapf_watched::ask;
+use planner::domain;
+use planner::request::Request;
+use terms::{Fault, Leg, RankedHint, WaitHint};
+
+/// Under so many nanoseconds the call is refused 4 (RULES 4.13).
+const SHORT: i64 = 10;
+
+const NO_LINE: u64 = 4;
+
+pub fn compare(seed: u64, count: u64) -> Report {
+    let mut report = Report::default();
+    each(seed, count, |drawn| {
+        let request = asked(drawn);
+        let (profile, leg) = (request.scene.agent, (request.from, request.to));
+        let mut table = Table::of(&request.scene);
+        let spoilt = drawn.dice.one_in(64) && table.spoil(&mut drawn.dice);
+        let expected = match spoilt {
+            true => Expected::Refused(2),
+            false => expected(&request),
+        };
+        look(&mut report, &expected);
+        let words = match &expected {
+            Expected::Words(words) => words.len(),
+            Expected::Refused(_) => 1,
+        };
+        let len = drawn.room(words);
+        let handed = lend(len, |out| proved::wait_hints(profile, leg, &table, out));
+        let kind = if spoilt {
+            "spoilt lists"
+        } else {
+            drawn.kind.name()
+        };
+        report.add(kind, &handed, &expected.in_room(len), || {
+            format!("{request:?} as {table:?} in {len} words")
+        });
+    });
+    report
+}
+
+/// Counts what the right answers have.
+fn look(report: &mut Report, expected: &Expected) {
+    let words = match expected {
+        Expected::Words(words) => words,
+        Expected::Refused(10) => return report.see("a 65th hint"),
+        Expected::Refused(_) => return,
+    };
+    let hints: Vec<&[u64]> = words[1..].chunks(6).collect();
+    report.see(match hints.len() {
+        0 => "no hint",
+        1..=9 => "1 to 9 hints",
+        10..=63 => "10 to 63 hints",
+        _ => "64 hints",
+    });
+    if hints.windows(2).any(|pair| pair[0][..2] == pair[1][..2]) {
+        report.see("hints level in contour and reach");
+    }
+    if hints.iter().any(|hint| (hint[0] as i64) < 0) {
+        report.see("a contour below zero");
+    }
+}
+
+/// The request with another leg of the agent's in some cases, and in some with other obstacles.
+fn asked(drawn: &mut Drawn) -> Request {
+    let (from, to) = agent_leg(drawn);
+    let mut request = Request {
+        from,
+        to,
+        ..drawn.request.clone()
+    };
+    let d = &mut drawn.dice;
+    let obstacles = &mut request.scene.obstacles;
+    if !obstacles.is_empty() {
+        let at = d.count(0, obstacles.len() - 1);
+        match d.whole(0, 31) {
+            0 => obstacles[at].waypoints.truncate(1),
+            1 => obstacles[at].waypoints.reverse(),
+            2 => obstacles[at].waypoints.clear(),
+            3..=5 => obstacles.push(obstacles[at].clone()),
+            6 => obstacles.swap(0, at),
+            _ => (),
+        }
+    }
+    request
+}
+
+/// The agent's own leg in most cases, with another time or the other way round in some.
+fn agent_leg(drawn: &mut Drawn) -> Leg {
+    let Request { from, to, .. } = drawn.request;
+    let lasts = to.time.saturating_sub(from.time);
+    let d = &mut drawn.dice;
+    match d.whole(0, 15) {
+        0 => {
+            let obstacle = drawn.obstacle();
+            let other = drawn.leg_of(&obstacle);
+            drawn.agent_leg(other)
+        }
+        1 | 2 => (to.at(from.time), from.at(to.time)),
+        3 => (from, to.at(from.time.saturating_add(lasts / 2))),
+        4 => (from, to.at(to.time.saturating_add(lasts))),
+        5 => (from.at(from.time.saturating_add(lasts / 3)), to),
+        6 => {
+            let later = d.pick(&[1, 1_000_000, lasts / 7, lasts]);
+            (
+                from.at(from.time.saturating_add(later)),
+                to.at(to.time.saturating_add(later)),
+            )
+        }
+        _ => (from, to),
+    }
+}
+
+fn expected(request: &Request) -> Expected {
+    if let Some(number) = domain::refused(request) {
+        return Expected::Refused(number.into());
+    }
+    if request.to.time - request.from.time < SHORT {
+        return Expected::Refused(NO_LINE);
+    }
+    match ranked(request) {
+        Ok(hints) => Expected::Words(words(&hints)),
+        Err(fault) => Expected::fault(&fault),
+    }
+}
+
+/// The Rust's ranked hints, those that are level in the order in which it finds them.
+fn ranked(request: &Request) -> Result<Vec<RankedHint>, Fault> {
+    let Request {
+        from, to, scene, ..
+    } = request;
+    let mut hints = ask::compute_safe_linear_path_wait_hints(*from, *to, scene)?;
+    let found = ask::compute_wait_hints(*from, *to, scene)?;
+    let place = |hint: &WaitHint| found.iter().position(|f| bits(f) == bits(hint));
+    let level = |a: &RankedHint, b: &RankedHint| a.contour == b.contour && a.reach == b.reach;
+    let mut rest = &mut hints[..];
+    while let Some(first) = rest.first().copied() {
+        let same = rest.iter().take_while(|hint| level(&first, hint)).count();
+        rest[..same].sort_by_key(|ranked| place(&ranked.hint));
+        rest = &mut rest[same..];
+    }
+    Ok(hints)
+}
+
+fn bits(hint: &WaitHint) -> (u64, u64, i64, usize) {
+    (
+        hint.x.to_bits(),
+        hint.y.to_bits(),
+        hint.until,
+        hint.obstacle,
+    )
+}
+
+/// How many there are, and six words each.
+fn words(hints: &[RankedHint]) -> Vec<u64> {
+    let six = |ranked: &RankedHint| {
+        let (x, y, until, obstacle) = bits(&ranked.hint);
+        let reach = ranked.reach.to_bits();
+        [
+            ranked.contour as u64,
+            reach,
+            x,
+            y,
+            until as u64,
+            obstacle as u64,
+        ]
+    };
+    let mut all = vec![hints.len() as u64];
+    all.extend(hints.iter().flat_map(six));
+    all
+}
