@@ -144,3 +144,8 @@ obstacles-with-boxes lent boxes room =
     (length (lent .starts) - 0)
     0
     (λ o l r. rw (box-at-place lent boxes o room (omega arith)))
+
+-- The same for a list that was put together by `put_boxes`.
+pub with-boxes : (lent : Lent) (room boxes : List Float) → boxes ≡ boxesOf lent room →
+    4 * length (lent .starts) ≤ length room → obstaclesWith lent (boxIn boxes) ≡ obstaclesOf lent
+with-boxes lent room boxes e h = ap (λ l. obstaclesWith lent (boxIn l)) e ∙ obstacles-with-boxes lent room h

@@ -1,12 +1,13 @@
 -- The legs of the waypoints in a range: how they are walked from the front, and how many there are.
 -- Assumes nothing.
-use Prim.Native.Nat.{ℕ, suc, _+_, _-_, _≤_, _<_}
-use mathlib.Core.Path.{_≡_, refl, ap, _∙_}
+use Prim.Native.Nat.{ℕ, zero, suc, _+_, _-_, _≤_, _<_}
+use mathlib.Core.Path.{_≡_, refl, sym, ap, _∙_}
 use mathlib.Core.List.{List, [], _∷_}
 use native.Mathlib.Omega.{arith}
 use lib.ListN.{length}
 use Rattle.lists.specs.Listed.{listedTo}
-use Rattle.lists.proofs.Listed.{listed-next, length-listed}
+use Rattle.lists.proofs.Listed.{listed-done, listed-next, length-listed}
+use Rattle.shapes.specs.declared.waypoint.Leg.{Leg}
 use Rattle.shapes.specs.declared.waypoint.Waypoint.{Waypoint}
 use Rattle.obstacles.specs.Obstacle.{legsOf, legsFrom}
 
@@ -38,3 +39,18 @@ length-legs (v ∷ vs) = let e = length-legs-from v vs in omega arith
 
 pub legs-count : (w : ℕ → Waypoint) (end i : ℕ) → length (legsOf (listedTo w end i)) ≡ (end - i) - 1
 legs-count w end i = length-legs (listedTo w end i) ∙ ap (λ n. n - 1) (length-listed w (end - i) i)
+
+-- The legs up to the waypoint at `last`, one by one.
+pub legs-listed : (w : ℕ → Waypoint) (last i : ℕ) →
+    listedTo (λ j. record { start = w j; end = w (j + 1) }) last i ≡ legsOf (listedTo w (last + 1) i)
+legs-listed w last i = by (last - i) i refl
+  where
+    leg : ℕ → Leg
+    leg j = record { start = w j; end = w (j + 1) }
+
+    by : (n j : ℕ) → last - j ≡ n → listedTo leg last j ≡ legsOf (listedTo w (last + 1) j)
+    by zero j e = listed-done leg last j (omega arith) ∙ sym (legs-done w (last + 1) j (omega arith))
+    by (suc n) j e =
+        listed-next leg last j (omega arith) ∙
+        ap (λ legs. leg j ∷ legs) (by n (j + 1) (omega arith)) ∙
+        sym (legs-next w (last + 1) j (omega arith))

@@ -4,3 +4,4 @@ mod Counting
 pub mod Legs
 pub mod Filling
 pub mod Shaped
+pub mod Accepted

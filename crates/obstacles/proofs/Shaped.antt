@@ -1,16 +1,20 @@
 -- What a table that is shaped as it should be gives the layers above: few obstacles, and few legs.
 -- Assumes nothing.
 use Prim.Native.Nat.{_≤_}
-use mathlib.Core.Path.{_≡_}
-use mathlib.Core.Bool.{true, _&&_}
+use mathlib.Core.Path.{_≡_, refl}
+use mathlib.Core.Bool.{Bool, true, false, _&&_, cond}
 use native.Mathlib.Omega.{arith}
 use borrow.Author.Tests.{leb-true}
 use lib.Dec.{leb}
 use lib.ListN.{length}
 use Rattle.lists.specs.Listed.{every}
 use Rattle.numbers.proofs.Reach.{both}
+use Rattle.shapes.specs.declared.domain.Examined.{Examined}
+use Rattle.shapes.specs.declared.domain.Examined.the-variants.{Fine, Refused}
+use Rattle.shapes.specs.declared.profile.CircularProfile.{CircularProfile}
+use Rattle.shapes.specs.declared.waypoint.Leg.{Leg}
 use Rattle.obstacles.specs.Lent.{Lent, obstaclesOf}
-use Rattle.obstacles.specs.Examined.{isLaid, isTrajectory, legsInAll, isFew, isShaped}
+use Rattle.obstacles.specs.Examined.{isLaid, isTrajectory, legsInAll, isFew, isShaped, agentExamined}
 use Rattle.obstacles.proofs.Counting.{obstacles-count}
 
 shaped-few : (lent : Lent) → isShaped lent ≡ true → isFew (obstaclesOf lent) ≡ true
@@ -34,3 +38,16 @@ unfolding isFew
 shaped-legs lent e =
     let os = obstaclesOf lent in
     leb-true (legsInAll os) 256 (both (leb (length os) 32) (leb (legsInAll os) 256) (shaped-few lent e) .1)
+
+-- An input that is accepted has a table of the right shape, so at most 32 obstacles (RULES 5.1).
+fine-shaped : (p : CircularProfile) (agent : Leg) (lent : Lent) → agentExamined p agent lent ≡ Fine → isShaped lent ≡ true
+unfolding agentExamined
+fine-shaped p agent lent e = by (isShaped lent) _ e
+  where
+    by : (t : Bool) (rest : Examined) → cond t rest (Refused 2) ≡ Fine → t ≡ true
+    by true rest e = refl
+    by false rest e = cc
+
+pub fine-starts : (p : CircularProfile) (agent : Leg) (lent : Lent) →
+    agentExamined p agent lent ≡ Fine → length (lent .starts) ≤ 32
+fine-starts p agent lent e = shaped-starts lent (fine-shaped p agent lent e)

@@ -1,15 +1,10 @@
 -- `segments::calls::among` meets its contract: 128 doubles have room for the boxes of 32 obstacles.
 -- Assumes nothing.
-use Prim.Native.Nat.{_*_, _≤_}
-use mathlib.Core.Path.{_≡_, ap, _∙_}
-use mathlib.Core.List.{List}
+use mathlib.Core.Path.{_∙_}
 use native.Mathlib.Omega.{arith}
 use borrow.Author.Needs.{needs}
-use lib.ListN.{length}
-use lib.Ieee.{Float}
-use Rattle.obstacles.specs.Lent.{Lent, lentOf, obstaclesWith, obstaclesOf}
-use Rattle.obstacles.specs.Boxes.{boxIn, boxesOf}
-use Rattle.obstacles.proofs.Filling.{obstacles-with-boxes}
+use Rattle.obstacles.specs.Lent.{lentOf}
+use Rattle.obstacles.proofs.Filling.{with-boxes}
 use Rattle.segments.proofs.calls.among.Statement.{statement}
 use Rattle.segments.proofs.calls.among.Tie as tie
 
@@ -27,11 +22,6 @@ slice-aggregate-is-safe-segment c = search needs
 
 is-safe-segment-requires : tie.Need-is-safe-segment-requires
 is-safe-segment-requires c κs = search needs
-
--- The obstacles with the boxes that were put into a list with room for them.
-with-boxes : (lent : Lent) (room boxes : List Float) → boxes ≡ boxesOf lent room →
-    4 * length (lent .starts) ≤ length room → obstaclesWith lent (boxIn boxes) ≡ obstaclesOf lent
-with-boxes lent room boxes e h = ap (λ l. obstaclesWith lent (boxIn l)) e ∙ obstacles-with-boxes lent room h
 
 returns : tie.Need-returns
 returns c =

@@ -1,27 +1,14 @@
 -- `segments::calls::segment` meets its contract: the refusal of its input, or the verdict among its obstacles, at most 32.
 -- Assumes nothing.
-use mathlib.Core.Path.{_≡_, refl, sym, _∙_}
-use mathlib.Core.Bool.{Bool, true, false, cond}
+use mathlib.Core.Path.{_≡_, sym, _∙_}
 use borrow.Author.Needs.{needs}
-use Rattle.shapes.specs.declared.domain.Examined.{Examined}
-use Rattle.shapes.specs.declared.domain.Examined.the-variants.{Fine, Refused}
-use Rattle.shapes.specs.declared.profile.CircularProfile.{CircularProfile}
-use Rattle.shapes.specs.declared.waypoint.Leg.{Leg}
-use Rattle.obstacles.specs.Lent.{Lent, lentOf}
-use Rattle.obstacles.specs.Examined.{isShaped, agentExamined}
-use Rattle.obstacles.proofs.Shaped.{shaped-starts}
+use Rattle.shapes.specs.declared.domain.Examined.the-variants.{Fine}
+use Rattle.obstacles.specs.Lent.{lentOf}
+use Rattle.obstacles.specs.Examined.{agentExamined}
+use Rattle.obstacles.proofs.Shaped.{fine-starts}
 use Rattle.segments.specs.Asked.{askedSegment}
 use Rattle.segments.proofs.calls.segment.Statement.{statement}
 use Rattle.segments.proofs.calls.segment.Tie as tie
-
--- An input that is fine has a table of the right shape.
-fine-shaped : (p : CircularProfile) (agent : Leg) (lent : Lent) → agentExamined p agent lent ≡ Fine → isShaped lent ≡ true
-unfolding agentExamined
-fine-shaped p agent lent e = by (isShaped lent) _ e
-  where
-    by : (t : Bool) (rest : Examined) → cond t rest (Refused 2) ≡ Fine → t ≡ true
-    by true rest e = refl
-    by false rest e = cc
 
 examine-requires : tie.Need-examine-requires
 examine-requires c κs = search needs
@@ -45,7 +32,7 @@ among-requires : tie.Need-among-requires
 among-requires c κs =
     let a = c .before .before .before .before .before .before .before .args in
     let lent = lentOf (a .starts .now) (a .numbers .now) (a .times .now) (a .xs .now) (a .ys .now) in
-    shaped-starts lent (fine-shaped (a .p) (a .agent) lent (fine c))
+    fine-starts (a .p) (a .agent) lent (fine c)
 
 returns : tie.Need-returns
 unfolding askedSegment

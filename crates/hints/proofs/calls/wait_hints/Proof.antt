@@ -1,0 +1,78 @@
+-- `hints::calls::wait_hints` meets its contract: the refusal of its input, 4 for a brief leg, or the hints among its obstacles.
+-- Assumes nothing.
+use mathlib.Core.Path.{_≡_, sym, _∙_}
+use borrow.Author.Needs.{needs}
+use Rattle.shapes.specs.declared.domain.Examined.the-variants.{Fine}
+use Rattle.obstacles.specs.Lent.{lentOf}
+use Rattle.obstacles.specs.Examined.{agentExamined}
+use Rattle.obstacles.proofs.Shaped.{fine-starts}
+use Rattle.hints.specs.Asked.{askedHints}
+use Rattle.hints.proofs.calls.wait_hints.Statement.{statement}
+use Rattle.hints.proofs.calls.wait_hints.Tie as tie
+
+examine-requires : tie.Need-examine-requires
+examine-requires c κs = search needs
+
+enum-known-input : tie.Need-enum-known-input
+enum-known-input c = search needs
+
+refused-by-requires : tie.Need-refused-by-requires
+refused-by-requires c κs = search needs
+
+enum-told : tie.Need-enum-told
+enum-told c = search needs
+
+is-brief-requires : tie.Need-is-brief-requires
+is-brief-requires c κs = search needs
+
+refused-by-requires-2 : tie.Need-refused-by-requires-2
+refused-by-requires-2 c κs = search needs
+
+fine : (c : tie.After-enum-told) →
+    let a = c .before .before .before .before .before .before .before .args in
+    agentExamined
+    (a .p)
+    (a .agent)
+    (lentOf (a .starts .now) (a .numbers .now) (a .times .now) (a .xs .now) (a .ys .now)) ≡
+    Fine
+fine c = sym (c .before .before .examine .ensures) ∙ c .enum-told .given .1
+
+returns : tie.Need-returns
+unfolding askedHints
+returns c =
+    let brief = c .before .before in
+    rw (fine (brief .before), sym (brief .is-brief .ensures) ∙ c .before .if1 .taken) (c .refused-by2 .ensures)
+
+among-requires : tie.Need-among-requires
+among-requires c κs =
+    let told = c .before .before in
+    let a = told .before .before .before .before .before .before .before .args in
+    let lent = lentOf (a .starts .now) (a .numbers .now) (a .times .now) (a .xs .now) (a .ys .now) in
+    fine-starts (a .p) (a .agent) lent (fine told)
+
+returns-2 : tie.Need-returns-2
+unfolding askedHints
+returns-2 c =
+    let refused = c .before .before in
+    rw (sym (refused .before .before .examine .ensures) ∙ refused .input .given .1) (c .refused-by .ensures)
+
+returns-3 : tie.Need-returns-3
+unfolding askedHints
+returns-3 c =
+    let brief = c .before .before in
+    rw (fine (brief .before), sym (brief .is-brief .ensures) ∙ c .before .if1 .left) (c .among .ensures)
+
+pub wait-hints-spec : {M : Type 1} → statement M
+wait-hints-spec =
+    tie.close
+    (tie.spec
+    examine-requires
+    enum-known-input
+    refused-by-requires
+    enum-told
+    is-brief-requires
+    refused-by-requires-2
+    returns
+    among-requires
+    returns-2
+    returns-3)

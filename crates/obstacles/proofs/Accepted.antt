@@ -1,0 +1,94 @@
+-- An input that is accepted has the numbers of the table, and each leg of an obstacle ends after it starts (RULES 3.1 to 3.6).
+-- Assumes nothing.
+use mathlib.Core.Path.{_≡_, refl}
+use mathlib.Core.Bool.{Bool, true, false, not, _&&_, cond, true≢false}
+use mathlib.Core.List.{List, [], _∷_}
+use lib.Dec.{eqb}
+use lib.ListN.{length}
+use Rattle.lists.specs.Listed.{every}
+use Rattle.numbers.proofs.Reach.{both}
+use Rattle.shapes.specs.Leg.{isBackward, isRising}
+use Rattle.shapes.specs.Domain.{isLimit, isWaypoint, isLeg, isProfile}
+use Rattle.shapes.specs.declared.domain.Examined.the-variants.{Fine, Refused}
+use Rattle.shapes.specs.declared.profile.CircularProfile.{CircularProfile}
+use Rattle.shapes.specs.declared.waypoint.Leg.{Leg}
+use Rattle.shapes.specs.declared.waypoint.Waypoint.{Waypoint}
+use Rattle.obstacles.specs.Obstacle.{Obstacle, legsFrom, legsOf}
+use Rattle.obstacles.specs.Lent.{Lent, obstaclesOf}
+use Rattle.obstacles.specs.Examined.{isLaid, isTrajectory, isFew, isShaped, isAllowed, areAllowed, agentExamined}
+
+-- A leg of the table that ends after it starts.
+abbrev pub isDriven : Leg → Bool
+isDriven leg = isLeg leg && isRising leg
+
+-- An obstacle with a profile of the table and such legs.
+abbrev pub isFit : Obstacle → Bool
+isFit o = isProfile (o .profile) && every isDriven (legsOf (o .waypoints))
+
+-- The agent's profile and leg, and each obstacle.
+pub record Accepted (p : CircularProfile) (leg : Leg) (obstacles : List Obstacle) : Type 0 where
+  pub profile : isProfile p ≡ true
+  pub own : isLeg leg ≡ true
+  pub forward : isBackward leg ≡ false
+  pub others : every isFit obstacles ≡ true
+
+legs-driven : (w : Waypoint) (ws : List Waypoint) →
+    isWaypoint w ≡ true → every isWaypoint ws ≡ true → every isRising (legsFrom w ws) ≡ true →
+    every isDriven (legsFrom w ws) ≡ true
+unfolding every isLeg
+legs-driven w [] e es rising = refl
+legs-driven w (v ∷ vs) e es rising =
+    let next = both (isWaypoint v) (every isWaypoint vs) es in
+    let rises = both (isRising (record { start = w; end = v })) (every isRising (legsFrom v vs)) rising in
+    rw (e, next .0, rises .0) (legs-driven v vs (next .0) (next .1) (rises .1))
+
+trajectory-driven : (ws : List Waypoint) →
+    every isWaypoint ws ≡ true → isTrajectory ws ≡ true → every isDriven (legsOf ws) ≡ true
+unfolding isTrajectory legsOf every
+trajectory-driven [] es moves = refl
+trajectory-driven (w ∷ ws) es moves =
+    let here = both (isWaypoint w) (every isWaypoint ws) es in
+    let rising = both (not (eqb (length (w ∷ ws)) 1)) (every isRising (legsFrom w ws)) moves .1 in
+    legs-driven w ws (here .0) (here .1) rising
+
+obstacle-fit : (o : Obstacle) → isAllowed o ≡ true → isTrajectory (o .waypoints) ≡ true → isFit o ≡ true
+unfolding isAllowed
+obstacle-fit o allowed moves =
+    let numbers = both (isProfile (o .profile)) (isLimit (o .limit) && every isWaypoint (o .waypoints)) allowed in
+    let places = both (isLimit (o .limit)) (every isWaypoint (o .waypoints)) (numbers .1) .1 in
+    rw (numbers .0) (trajectory-driven (o .waypoints) places moves)
+
+obstacles-fit : (os : List Obstacle) →
+    every isAllowed os ≡ true → every (λ o. isTrajectory (o .waypoints)) os ≡ true → every isFit os ≡ true
+unfolding every
+obstacles-fit [] allowed moves = refl
+obstacles-fit (o ∷ os) allowed moves =
+    let numbers = both (isAllowed o) (every isAllowed os) allowed in
+    let times = both (isTrajectory (o .waypoints)) (every (λ x. isTrajectory (x .waypoints)) os) moves in
+    let here = both (isProfile (o .profile)) (every isDriven (legsOf (o .waypoints))) (obstacle-fit o (numbers .0) (times .0)) in
+    rw (here .0, here .1) (obstacles-fit os (numbers .1) (times .1))
+
+-- An input that is fine.
+pub accepted : (p : CircularProfile) (leg : Leg) (lent : Lent) →
+    agentExamined p leg lent ≡ Fine → Accepted p leg (obstaclesOf lent)
+unfolding agentExamined isShaped areAllowed
+accepted p leg lent = by (isShaped lent) (isProfile p && (isLeg leg && areAllowed lent)) (isBackward leg) refl refl refl
+  where
+    by : (shaped allowed backward : Bool) →
+        isShaped lent ≡ shaped → (isProfile p && (isLeg leg && areAllowed lent)) ≡ allowed → isBackward leg ≡ backward →
+        cond shaped (cond allowed (cond backward (Refused 3) Fine) (Refused 1)) (Refused 2) ≡ Fine →
+        Accepted p leg (obstaclesOf lent)
+    by true true false shaped allowed forward e =
+        let moves = every (λ o. isTrajectory (o .waypoints)) (obstaclesOf lent) in
+        let few = both (isLaid lent) (isFew (obstaclesOf lent) && moves) shaped .1 in
+        let ours = both (isProfile p) (isLeg leg && areAllowed lent) allowed in
+        let rest = both (isLeg leg) (areAllowed lent) (ours .1) in
+        record {
+          profile = ours .0;
+          own = rest .0;
+          forward = forward;
+          others = obstacles-fit (obstaclesOf lent) (rest .1) (both (isFew (obstaclesOf lent)) moves few .1);
+        }
+    by true true true shaped allowed backward e = absurd (true≢false (cc e))
+    by true false backward shaped allowed b e = absurd (true≢false (cc e))
+    by false allowed backward shaped a b e = absurd (true≢false (cc e))
