@@ -9,8 +9,9 @@ use crate::room::{lend, Expected};
 use crate::table::Table;
 use mapf_watched::ask;
 use planner::domain;
+use planner::generate::dice::Dice;
 use planner::request::Request;
-use terms::{Fault, Leg, RankedHint, WaitHint};
+use terms::{Fault, Leg, Obstacle, Profile, RankedHint, WaitHint, Waypoint};
 
 /// Under so many nanoseconds the call is refused 4 (RULES 4.13).
 const SHORT: i64 = 10;
@@ -79,6 +80,10 @@ fn asked(drawn: &mut Drawn) -> Request {
     };
     let d = &mut drawn.dice;
     let obstacles = &mut request.scene.obstacles;
+    if d.one_in(2) && obstacles.len() < domain::OBSTACLES {
+        let place = d.count(0, obstacles.len());
+        obstacles.insert(place, across(d, (from, to), request.scene.agent));
+    }
     if !obstacles.is_empty() {
         let at = d.count(0, obstacles.len() - 1);
         match d.whole(0, 31) {
@@ -91,6 +96,33 @@ fn asked(drawn: &mut Drawn) -> Request {
         }
     }
     request
+}
+
+/// A cart of the agent's own kind that goes across the agent's way or along it at about its time.
+fn across(d: &mut Dice, (from, to): Leg, profile: Profile) -> Obstacle {
+    let (x, y) = ((from.x + to.x) / 2.0, (from.y + to.y) / 2.0);
+    let (dx, dy) = ((to.x - from.x) / 2.0, (to.y - from.y) / 2.0);
+    let middle = from.time / 2 + to.time / 2;
+    let lasts = to.time.saturating_sub(from.time).max(2);
+    let (ahead, aside) = d.pick(&[(0.0, 1.0), (0.5, 1.0), (0.5, 0.0), (-0.5, 0.25), (0.0, 0.5)]);
+    let at = |side: f64, time: i64| {
+        let place = |middle: f64, moved: f64| {
+            (middle + side * moved).clamp(-domain::FARTHEST, domain::FARTHEST)
+        };
+        Waypoint::new(
+            time.clamp(0, domain::LATEST),
+            place(x, ahead * dx - aside * dy),
+            place(y, ahead * dy + aside * dx),
+        )
+    };
+    let half = lasts / d.pick(&[2, 2, 4, 10]) + 1;
+    let start = at(-1.0, middle.saturating_sub(half));
+    let end = at(1.0, middle.saturating_add(half));
+    Obstacle {
+        profile,
+        conflict_squared: 1.0,
+        waypoints: vec![start, end],
+    }
 }
 
 /// The agent's own leg in most cases, with another time or the other way round in some.
@@ -139,15 +171,18 @@ fn ranked(request: &Request) -> Result<Vec<RankedHint>, Fault> {
     } = request;
     let mut hints = ask::compute_safe_linear_path_wait_hints(*from, *to, scene)?;
     let found = ask::compute_wait_hints(*from, *to, scene)?;
-    let place = |hint: &WaitHint| found.iter().position(|f| bits(f) == bits(hint));
     let level = |a: &RankedHint, b: &RankedHint| a.contour == b.contour && a.reach == b.reach;
-    let mut rest = &mut hints[..];
-    while let Some(first) = rest.first().copied() {
-        let same = rest.iter().take_while(|hint| level(&first, hint)).count();
-        rest[..same].sort_by_key(|ranked| place(&ranked.hint));
-        rest = &mut rest[same..];
+    let mut ranked = Vec::new();
+    while let Some(first) = hints.first().copied() {
+        let same = hints.iter().take_while(|hint| level(&first, hint)).count();
+        let mut run: Vec<RankedHint> = hints.drain(..same).collect();
+        for hint in &found {
+            let place = run.iter().position(|r| bits(&r.hint) == bits(hint));
+            ranked.extend(place.map(|at| run.remove(at)));
+        }
+        ranked.append(&mut run);
     }
-    Ok(hints)
+    Ok(ranked)
 }
 
 fn bits(hint: &WaitHint) -> (u64, u64, i64, usize) {
