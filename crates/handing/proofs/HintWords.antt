@@ -51,7 +51,7 @@ words-next room n hints i d h k e =
     let rest = drop (at + 6) room in
     let front = take at room in
     let long : length (front ++ w) ≡ 1 + 6 * (i + 1) =
-        omega (arith, length-append front w, length-take-le at room (omega arith), length-hint-words (getD hints i d)) in
+    omega (arith, length-append front w, length-take-le at room (omega arith), length-hint-words (getD hints i d)) in
     ap (take (1 + 6 * (i + 1))) (sym (append-assoc front w rest)) ∙
     take-at (front ++ w) rest (1 + 6 * (i + 1)) long ∙
     ap (λ (words : List ℕ). words ++ w) e ∙

@@ -97,12 +97,12 @@ loop-again c =
       (
         c .room2 .given,
         ap (take (1 + 6 * (l .i + 1))) (
-          put .ensures ∙
-          ap
-          (λ (h : RankedHint). take (1 + 6 * l .i) (l .room) ++ (hintWords h ++ drop (1 + 6 * l .i + 6) (l .room)))
-          (sym (getD-take (list .count) (list .all) (l .i) _ (omega (arith, length-take (list .count) (list .all)))))
-        ) ∙
-        words-next (l .room) n (held list) (l .i) _ below (omega arith) (l .inv .1 .1),
+            put .ensures ∙
+            ap
+            (λ (h : RankedHint). take (1 + 6 * l .i) (l .room) ++ (hintWords h ++ drop (1 + 6 * l .i + 6) (l .room)))
+            (sym (getD-take (list .count) (list .all) (l .i) _ (omega (arith, length-take (list .count) (list .all)))))
+            ) ∙
+            words-next (l .room) n (held list) (l .i) _ below (omega arith) (l .inv .1 .1),
       ),
     )
 
@@ -137,7 +137,7 @@ returns-2 c =
     let n = s .len .result in
     let all : l .i ≡ n = omega arith in
     let words : take (1 + 6 * n) (l .room) ≡ length (held list) ∷ allWords (held list) =
-        ap (λ (k : ℕ). take (1 + 6 * k) (l .room)) (sym all) ∙ l .inv .1 .1 ∙ rw (all, s .len .ensures, take-length) in
+    ap (λ (k : ℕ). take (1 + 6 * k) (l .room)) (sym all) ∙ l .inv .1 .1 ∙ rw (all, s .len .ensures, take-length) in
     rw (eq-eqb _ _ (s .before .if1 .left), ← words) (c .before .before .hand-over .ensures)
 
 pub give-hints-spec : {M : Type 1} → statement M
