@@ -6,8 +6,9 @@ use proximity::calls;
 use shapes::profile::CircularProfile;
 ghost use Rattle.lists.specs.Outcome.{Handed};
 ghost use Rattle.proximity.specs.Proximity.{proximityOutcome};
-ghost use Rattle.proximity.specs.Conflict.{verdictOutcome};
-ghost use Rattle.proximity.specs.Asked.{askedPosition, askedProximity, askedConflict, positionOutcome};
+ghost use Rattle.proximity.specs.Asked.{askedPosition, askedProximity, positionOutcome};
+ghost use Rattle.conflicts.specs.Conflict.{verdictOutcome};
+ghost use Rattle.conflicts.specs.Asked.{askedConflict};
 ghost use Rattle.exports.specs.Plain.{legOf, profileOf};
 
 // Where a leg of the agent's is at the instant t, and how fast it goes.
@@ -84,5 +85,8 @@ pub extern "C" fn igelbert_have_conflict(
         follow: follow2,
     };
     let obstacle = shape_calls::leg_of(t2, x2, y2, t3, x3, y3);
-    proximity_words::give_verdict(calls::conflict(p, agent, q, obstacle, limit), out)
+    proximity_words::give_verdict(
+        conflicts::calls::conflict(p, agent, q, obstacle, limit),
+        out,
+    )
 }

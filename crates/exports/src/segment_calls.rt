@@ -4,7 +4,7 @@ use handing::proximity_words;
 use segments::calls;
 use shapes::profile::CircularProfile;
 ghost use Rattle.lists.specs.Outcome.{Handed};
-ghost use Rattle.proximity.specs.Conflict.{verdictOutcome};
+ghost use Rattle.conflicts.specs.Conflict.{verdictOutcome};
 ghost use Rattle.segments.specs.Asked.{askedSegment};
 ghost use Rattle.obstacles.specs.Lent.{lentOf};
 ghost use Rattle.exports.specs.Plain.{legOf, profileOf};

@@ -1,15 +1,15 @@
 // Positions, proximity, verdicts and stationary proximity.
+use conflicts::conflict::Verdict;
 use lines::stationary::Stay;
 use lists::words;
 use numbers::word;
 use proximity::calls::Whereabouts;
-use proximity::conflict::Verdict;
 use proximity::detect::Proximity;
 ghost use Rattle.lists.specs.Outcome.{Handed};
 ghost use Rattle.proximity.specs.Proximity.{proximityOutcome};
-ghost use Rattle.proximity.specs.Conflict.{verdictOutcome};
-ghost use Rattle.lines.specs.Stationary.{stayOutcome};
 ghost use Rattle.proximity.specs.Asked.{positionOutcome};
+ghost use Rattle.conflicts.specs.Conflict.{verdictOutcome};
+ghost use Rattle.lines.specs.Stationary.{stayOutcome};
 
 pub fn give_position(p: Whereabouts, out: &mut [u64]) -> u64
     ensures { λ r. ⌜ Handed (positionOutcome p) (now (out .entry)) (now (out .exit)) r ⌝ }

@@ -3,8 +3,6 @@ pub mod Short
 pub mod Moving
 pub mod Origins
 pub mod Times
-pub mod Conflicts
-pub mod ShortLegs
 pub mod Placed
 pub mod Arrivals
 pub mod Apart

@@ -6,23 +6,18 @@ use lib.Ieee.{Float, binary64, toBits}
 use Rattle.lists.specs.Outcome.{Outcome, Gives, Refuses}
 use Rattle.numbers.specs.declared.time.TimePoint.{TimePoint}
 use Rattle.shapes.specs.Leg.{isBackward, isRising}
-use Rattle.shapes.specs.Box.{boxOfLeg}
-use Rattle.shapes.specs.Domain.{isTime, isLimit, isLeg, isProfile}
+use Rattle.shapes.specs.Domain.{isTime, isLimit, isLeg}
 use Rattle.shapes.specs.declared.domain.Examined.{Examined}
 use Rattle.shapes.specs.declared.domain.Examined.the-variants as X
-use Rattle.shapes.specs.declared.profile.CircularProfile.{CircularProfile}
 use Rattle.shapes.specs.declared.waypoint.Leg.{Leg}
 use Rattle.proximity.specs.Motion.{motionAt}
 use Rattle.proximity.specs.Proximity.{proximityOf}
-use Rattle.proximity.specs.Conflict.{conflictOf}
 use Rattle.proximity.specs.declared.motion.Motion.{Motion}
 use Rattle.proximity.specs.declared.motion.Motion.the-variants as M
 use Rattle.proximity.specs.declared.calls.Whereabouts.{Whereabouts}
 use Rattle.proximity.specs.declared.calls.Whereabouts.the-variants as Q
 use Rattle.proximity.specs.declared.detect.Proximity.{Proximity}
 use Rattle.proximity.specs.declared.detect.Proximity.the-variants as P
-use Rattle.proximity.specs.declared.conflict.Verdict.{Verdict}
-use Rattle.proximity.specs.declared.conflict.Verdict.the-variants as W
 
 -- A leg of the agent's at an instant: 1 for its numbers, 3 where it runs backward, then the work.
 unfoldable pub askedPosition : Leg → TimePoint → Whereabouts
@@ -49,21 +44,6 @@ askedProximity limit agent obstacle = examined (legsExamined limit agent obstacl
     examined : Examined → Proximity
     examined X.Fine = proximityOf limit agent obstacle
     examined (X.Refused n) = P.Refused n
-
--- What is wrong with them and the two profiles.
-unfoldable pub cartsExamined : CircularProfile → CircularProfile → Float → Leg → Leg → Examined
-cartsExamined p q limit agent obstacle =
-    cond (isRising obstacle)
-    (cond (isProfile p && isProfile q) (legsExamined limit agent obstacle) (X.Refused 1))
-    (X.Refused 2)
-
--- A conflict of the two, each with the box of its own leg and footprint (RULES 9.1).
-unfoldable pub askedConflict : CircularProfile → Leg → CircularProfile → Leg → Float → Verdict
-askedConflict p agent q obstacle limit = examined (cartsExamined p q limit agent obstacle)
-  where
-    examined : Examined → Verdict
-    examined X.Fine = conflictOf agent (boxOfLeg (p .footprint) agent) obstacle (boxOfLeg (q .footprint) obstacle) limit
-    examined (X.Refused n) = W.Refused n
 
 -- The number and the words of a position: whether there is one, the place and the velocity.
 abbrev pub positionOutcome : Whereabouts → Outcome

@@ -2,5 +2,4 @@ pub mod Motion
 pub mod Quadratic
 pub mod Range
 pub mod Proximity
-pub mod Conflict
 pub mod Asked

@@ -1,20 +1,15 @@
-// The calls for motion, proximity and conflict: each examines its own input, then does the work
-// (docs/RULES.md, 5.1 to 5.4 and 5.11).
-use crate::conflict;
-use crate::conflict::Verdict;
+// The calls for motion and proximity: each examines its own input, then does the work (docs/RULES.md, 5.1 to 5.4 and 5.11).
 use crate::detect;
 use crate::detect::Proximity;
 use crate::motion;
 use crate::motion::Motion;
 use crate::motion::State;
 use numbers::time::TimePoint;
-use shapes::bounding_box::BoundingBox;
 use shapes::domain;
 use shapes::domain::Examined;
-use shapes::profile::CircularProfile;
 use shapes::waypoint::Leg;
 ghost use mathlib.Core.Path.{_≡_};
-ghost use Rattle.proximity.specs.Asked.{askedPosition, legsExamined, askedProximity, cartsExamined, askedConflict};
+ghost use Rattle.proximity.specs.Asked.{askedPosition, legsExamined, askedProximity};
 
 // A leg at an instant: its state, that it is nowhere then, or a refusal and its number.
 pub enum Whereabouts {
@@ -45,7 +40,7 @@ pub fn position(leg: Leg, t: TimePoint) -> Whereabouts
 }
 
 // What is wrong with the agent's leg, an obstacle's leg and a limit.
-fn examine_legs(limit: f64, agent: Leg, obstacle: Leg) -> Examined
+pub fn examine_legs(limit: f64, agent: Leg, obstacle: Leg) -> Examined
     ensures { λ r. ⌜ r ≡ legsExamined limit agent obstacle ⌝ }
 {
     if !obstacle.is_rising() {
@@ -74,48 +69,5 @@ pub fn proximity(limit: f64, agent: Leg, obstacle: Leg) -> Proximity
     match input {
         Examined::Refused(n) => Proximity::Refused(n),
         Examined::Fine => detect::detect_proximity(limit, agent, obstacle),
-    }
-}
-
-// What is wrong with them and the two profiles.
-fn examine_carts(
-    p: CircularProfile,
-    q: CircularProfile,
-    limit: f64,
-    agent: Leg,
-    obstacle: Leg,
-) -> Examined
-    ensures { λ r. ⌜ r ≡ cartsExamined p q limit agent obstacle ⌝ }
-{
-    if !obstacle.is_rising() {
-        return Examined::Refused(2);
-    }
-    if !domain::is_profile(p) {
-        return Examined::Refused(1);
-    }
-    if !domain::is_profile(q) {
-        return Examined::Refused(1);
-    }
-    examine_legs(limit, agent, obstacle)
-}
-
-// Whether the agent's leg and an obstacle's are in conflict, each in the box of its own footprint.
-pub fn conflict(
-    p: CircularProfile,
-    agent: Leg,
-    q: CircularProfile,
-    obstacle: Leg,
-    limit: f64,
-) -> Verdict
-    ensures { λ r. ⌜ r ≡ askedConflict p agent q obstacle limit ⌝ }
-{
-    let input = examine_carts(p, q, limit, agent, obstacle);
-    match input {
-        Examined::Refused(n) => Verdict::Refused(n),
-        Examined::Fine => {
-            let agent_box = BoundingBox::for_line(p.footprint, agent);
-            let obstacle_box = BoundingBox::for_line(q.footprint, obstacle);
-            conflict::have_conflict(agent, agent_box, obstacle, obstacle_box, limit)
-        }
     }
 }

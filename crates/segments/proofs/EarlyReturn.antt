@@ -10,9 +10,9 @@ use Rattle.numbers.proofs.Reach.{both}
 use Rattle.shapes.specs.Box.{boxOfLeg, overlap}
 use Rattle.shapes.specs.declared.bounding_box.BoundingBox.{BoundingBox}
 use Rattle.shapes.specs.declared.waypoint.Leg.{Leg}
-use Rattle.proximity.specs.Conflict.{conflictOf}
-use Rattle.proximity.specs.declared.conflict.Verdict.{Verdict}
-use Rattle.proximity.specs.declared.conflict.Verdict.the-variants.{Clear, Conflict, Refused}
+use Rattle.conflicts.specs.Conflict.{conflictOf}
+use Rattle.conflicts.specs.declared.conflict.Verdict.{Verdict}
+use Rattle.conflicts.specs.declared.conflict.Verdict.the-variants.{Clear, Conflict, Refused}
 use Rattle.obstacles.specs.Obstacle.{Obstacle, legsOf}
 use Rattle.segments.specs.Segment.{isDuring, legVerdict, orElse, firstOf, obstacleVerdict, segmentOf}
 use Rattle.segments.specs.Early.{Turn, Goes, turnBy, andThen, turns}

@@ -15,9 +15,9 @@ use Rattle.shapes.specs.Box.{overlap}
 use Rattle.shapes.specs.declared.bounding_box.BoundingBox.{BoundingBox}
 use Rattle.shapes.specs.declared.waypoint.Leg.{Leg}
 use Rattle.shapes.specs.declared.waypoint.Waypoint.{Waypoint}
-use Rattle.proximity.specs.declared.conflict.Verdict.{Verdict}
-use Rattle.proximity.specs.declared.conflict.Verdict.the-variants.{Clear, Conflict, Refused}
-use Rattle.proximity.proofs.conflict.Verdict.{the-type as verdict}
+use Rattle.conflicts.specs.declared.conflict.Verdict.{Verdict}
+use Rattle.conflicts.specs.declared.conflict.Verdict.the-variants.{Clear, Conflict, Refused}
+use Rattle.conflicts.proofs.conflict.Verdict.{the-type as verdict}
 use Rattle.obstacles.specs.Obstacle.{legsOf}
 use Rattle.obstacles.specs.Lent.{Lent, startIn, profileIn, limitIn, waypointIn, waypointsOf, obstacleIn}
 use Rattle.obstacles.proofs.Legs.{legs-next, legs-done}

@@ -5,8 +5,8 @@ use Rattle.shapes.specs.declared.domain.Examined.{Examined}
 use Rattle.shapes.specs.declared.domain.Examined.the-variants as X
 use Rattle.shapes.specs.declared.profile.CircularProfile.{CircularProfile}
 use Rattle.shapes.specs.declared.waypoint.Leg.{Leg}
-use Rattle.proximity.specs.declared.conflict.Verdict.{Verdict}
-use Rattle.proximity.specs.declared.conflict.Verdict.the-variants as W
+use Rattle.conflicts.specs.declared.conflict.Verdict.{Verdict}
+use Rattle.conflicts.specs.declared.conflict.Verdict.the-variants as W
 use Rattle.obstacles.specs.Lent.{Lent, obstaclesOf}
 use Rattle.obstacles.specs.Examined.{agentExamined}
 use Rattle.segments.specs.Segment.{segmentOf}

@@ -7,9 +7,9 @@ use lib.Ieee.{Float}
 use Rattle.shapes.specs.Box.{boxOfLeg, overlap}
 use Rattle.shapes.specs.declared.bounding_box.BoundingBox.{BoundingBox}
 use Rattle.shapes.specs.declared.waypoint.Leg.{Leg}
-use Rattle.proximity.specs.Conflict.{conflictOf}
-use Rattle.proximity.specs.declared.conflict.Verdict.{Verdict}
-use Rattle.proximity.specs.declared.conflict.Verdict.the-variants.{Clear, Conflict, Refused}
+use Rattle.conflicts.specs.Conflict.{conflictOf}
+use Rattle.conflicts.specs.declared.conflict.Verdict.{Verdict}
+use Rattle.conflicts.specs.declared.conflict.Verdict.the-variants.{Clear, Conflict, Refused}
 use Rattle.obstacles.specs.Obstacle.{Obstacle, legsOf}
 
 -- The legs that `iter_range` gives: those that end at or after the agent's start and start at or before its end (RULES 2.7).

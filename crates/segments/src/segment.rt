@@ -1,8 +1,8 @@
 // Whether a segment is safe: `is_safe_segment` of the Rust (docs/RULES.md, 9.7 to 9.11).
+use conflicts::conflict;
+use conflicts::conflict::Verdict;
 use obstacles::boxes;
 use obstacles::table;
-use proximity::conflict;
-use proximity::conflict::Verdict;
 use shapes::bounding_box::BoundingBox;
 use shapes::waypoint::Leg;
 ghost use mathlib.Core.Path.{_≡_};

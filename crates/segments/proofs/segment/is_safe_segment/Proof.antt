@@ -9,8 +9,8 @@ use lib.ListN.{length}
 use Rattle.lists.specs.Listed.{listedTo}
 use Rattle.shapes.specs.declared.waypoint.Leg.{Leg}
 use Rattle.shapes.specs.declared.waypoint.Waypoint.{Waypoint}
-use Rattle.proximity.specs.declared.conflict.Verdict.{Verdict}
-use Rattle.proximity.specs.declared.conflict.Verdict.the-variants.{Clear}
+use Rattle.conflicts.specs.declared.conflict.Verdict.{Verdict}
+use Rattle.conflicts.specs.declared.conflict.Verdict.the-variants.{Clear}
 use Rattle.obstacles.specs.Obstacle.{Obstacle, legsOf}
 use Rattle.obstacles.specs.Lent.{lentOf, profileIn, limitIn, waypointIn, obstacleIn, obstaclesWith}
 use Rattle.obstacles.specs.Boxes.{boxIn}

@@ -10,13 +10,13 @@ use Rattle.floats.proofs.Tests.{passed}
 use Rattle.numbers.proofs.Integers.{below→at-most, at-most-trans}
 use Rattle.shapes.specs.declared.bounding_box.BoundingBox.{BoundingBox}
 use Rattle.shapes.specs.declared.waypoint.Leg.{Leg}
 use Rattle.proximity.specs.Range.{rangeStart, rangeEnd}
-use Rattle.proximity.specs.Conflict.{conflictOf}
-use Rattle.proximity.specs.declared.conflict.Verdict.the-variants.{Conflict}
 use Rattle.proximity.proofs.Holding.{starts, ends}
 use Rattle.proximity.proofs.Short.{long-around}
 use Rattle.proximity.proofs.Moving.{meets, range-in-order}
-use Rattle.proximity.proofs.Conflicts.{conflict-enters}
+use Rattle.conflicts.specs.Conflict.{conflictOf}
+use Rattle.conflicts.specs.declared.conflict.Verdict.the-variants.{Conflict}
+use Rattle.conflicts.proofs.Conflicts.{conflict-enters}
 
 module _ (agent : Leg) (bounds : BoundingBox) (obstacle : Leg) (other : BoundingBox) (limit : Float) where
   -- With a conflict the range is in order and not short, so that nothing around it is under 10 ns.

@@ -1,11 +1,11 @@
--- `proximity::calls::conflict` meets its contract: the refusal of its input, or the verdict on the legs and their two boxes.
+-- `conflicts::calls::conflict` meets its contract: the refusal of its input, or the verdict on the legs and their two boxes.
 -- Assumes nothing.
 use mathlib.Core.Path.{_≡_, sym, _∙_}
 use borrow.Author.Needs.{needs}
 use Rattle.shapes.specs.declared.domain.Examined.the-variants.{Fine}
-use Rattle.proximity.specs.Asked.{cartsExamined, askedConflict}
-use Rattle.proximity.proofs.calls.conflict.Statement.{statement}
-use Rattle.proximity.proofs.calls.conflict.Tie as tie
+use Rattle.conflicts.specs.Asked.{cartsExamined, askedConflict}
+use Rattle.conflicts.proofs.calls.conflict.Statement.{statement}
+use Rattle.conflicts.proofs.calls.conflict.Tie as tie
 
 examine-carts-requires : tie.Need-examine-carts-requires
 examine-carts-requires c κs = search needs

@@ -11,16 +11,16 @@ use Rattle.shapes.specs.Leg.{isInside}
 use Rattle.shapes.specs.Box.{overlap}
 use Rattle.shapes.specs.declared.bounding_box.BoundingBox.{BoundingBox}
 use Rattle.shapes.specs.declared.waypoint.Leg.{Leg}
 use Rattle.proximity.specs.Proximity.{proximityOf, entryOf}
-use Rattle.proximity.specs.Conflict.{isClosing, closingAt, enteredAt, judged, conflictOf}
 use Rattle.proximity.specs.declared.detect.Proximity.{Proximity}
 use Rattle.proximity.specs.declared.detect.Proximity.the-variants as P
 use Rattle.proximity.specs.declared.detect.Entry.the-variants as E
-use Rattle.proximity.specs.declared.conflict.Verdict.{Verdict}
-use Rattle.proximity.specs.declared.conflict.Verdict.the-variants.{Clear, Conflict, Refused}
 use Rattle.proximity.proofs.Holding.{end-not-inside}
 use Rattle.proximity.proofs.Origins.{Reached, Origin, origin}
 use Rattle.proximity.proofs.Origins.{nothing, at-end, enters, passes, rootless, creeping, apart, lost}
+use Rattle.conflicts.specs.Conflict.{isClosing, closingAt, enteredAt, judged, conflictOf}
+use Rattle.conflicts.specs.declared.conflict.Verdict.{Verdict}
+use Rattle.conflicts.specs.declared.conflict.Verdict.the-variants.{Clear, Conflict, Refused}
 
 -- The boxes overlap and the entry is strictly inside both legs, where the derivative is below -1e-6.
 pub record Entered (agent : Leg) (bounds : BoundingBox) (obstacle : Leg) (other : BoundingBox) (limit : Float) : Type 0 where

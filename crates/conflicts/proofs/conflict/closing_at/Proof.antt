@@ -1,10 +1,10 @@
--- `proximity::conflict::closing_at` meets its contract: the span, the quadratic and the test are the definition's.
+-- `conflicts::conflict::closing_at` meets its contract: the span, the quadratic and the test are the definition's.
 -- Assumes nothing.
 use mathlib.Core.Path.{sym, _∙_}
 use borrow.Author.Needs.{needs}
-use Rattle.proximity.specs.Conflict.{closingAt}
-use Rattle.proximity.proofs.conflict.closing_at.Statement.{statement}
-use Rattle.proximity.proofs.conflict.closing_at.Tie as tie
+use Rattle.conflicts.specs.Conflict.{closingAt}
+use Rattle.conflicts.proofs.conflict.closing_at.Statement.{statement}
+use Rattle.conflicts.proofs.conflict.closing_at.Tie as tie
 
 range-start-requires : tie.Need-range-start-requires
 range-start-requires c κs = search needs

@@ -1,13 +1,13 @@
--- `proximity::conflict::entered_at` meets its contract: its two tests and what it goes on with are the definition's.
+-- `conflicts::conflict::entered_at` meets its contract: its two tests and what it goes on with are the definition's.
 -- Assumes nothing.
 use mathlib.Core.Path.{_≡_}
 use mathlib.Core.Bool.{true}
 use borrow.Author.Needs.{needs}
 use Rattle.shapes.specs.Leg.{isInside}
-use Rattle.proximity.specs.Conflict.{enteredAt}
+use Rattle.conflicts.specs.Conflict.{enteredAt}
 use Rattle.floats.proofs.Tests.{found-true, found-false}
-use Rattle.proximity.proofs.conflict.entered_at.Statement.{statement}
-use Rattle.proximity.proofs.conflict.entered_at.Tie as tie
+use Rattle.conflicts.proofs.conflict.entered_at.Statement.{statement}
+use Rattle.conflicts.proofs.conflict.entered_at.Tie as tie
 
 is-inside-requires : tie.Need-is-inside-requires
 is-inside-requires c κs = search needs

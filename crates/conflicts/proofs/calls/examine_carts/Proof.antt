@@ -1,14 +1,14 @@
--- `proximity::calls::examine_carts` meets its contract: its three tests are the definition's, the legs come after.
+-- `conflicts::calls::examine_carts` meets its contract: its three tests are the definition's, the legs come after.
 -- Assumes nothing.
 use mathlib.Core.Path.{_≡_}
 use mathlib.Core.Bool.{true}
 use borrow.Author.Needs.{needs}
 use Rattle.shapes.specs.Leg.{isRising}
 use Rattle.shapes.specs.Domain.{isProfile}
-use Rattle.proximity.specs.Asked.{cartsExamined}
+use Rattle.conflicts.specs.Asked.{cartsExamined}
 use Rattle.floats.proofs.Tests.{found-true, found-false}
-use Rattle.proximity.proofs.calls.examine_carts.Statement.{statement}
-use Rattle.proximity.proofs.calls.examine_carts.Tie as tie
+use Rattle.conflicts.proofs.calls.examine_carts.Statement.{statement}
+use Rattle.conflicts.proofs.calls.examine_carts.Tie as tie
 
 is-rising-requires : tie.Need-is-rising-requires
 is-rising-requires c κs = search needs

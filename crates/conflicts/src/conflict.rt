@@ -1,16 +1,16 @@
 // Whether two legs are in conflict: `have_conflict` of the Rust (docs/RULES.md, 9.1 to 9.6).
-use crate::detect;
-use crate::detect::Entry;
-use crate::detect::Proximity;
-use crate::quadratic;
-use crate::quadratic::Meeting;
-use crate::quadratic::Quadratic;
 use numbers::time::Span;
 use numbers::time::TimePoint;
+use proximity::detect;
+use proximity::detect::Entry;
+use proximity::detect::Proximity;
+use proximity::quadratic;
+use proximity::quadratic::Meeting;
+use proximity::quadratic::Quadratic;
 use shapes::bounding_box::BoundingBox;
 use shapes::waypoint::Leg;
 ghost use mathlib.Core.Path.{_≡_};
-ghost use Rattle.proximity.specs.Conflict.{isClosing, closingAt, enteredAt, conflictOf};
+ghost use Rattle.conflicts.specs.Conflict.{isClosing, closingAt, enteredAt, conflictOf};
 
 // No conflict, a conflict, or a refusal and its number.
 pub enum Verdict {

@@ -15,16 +15,16 @@ use Rattle.shapes.specs.Leg.{isInside}
 use Rattle.shapes.specs.Box.{overlap}
 use Rattle.shapes.specs.declared.bounding_box.BoundingBox.{BoundingBox}
 use Rattle.shapes.specs.declared.waypoint.Leg.{Leg}
 use Rattle.proximity.specs.Quadratic.{meetingFrom}
 use Rattle.proximity.specs.Range.{rangeStart}
 use Rattle.proximity.specs.Proximity.{proximityOf}
 use Rattle.proximity.specs.declared.quadratic.Quadratic.{Quadratic}
 use Rattle.proximity.specs.declared.quadratic.Meeting.{Meeting}
 use Rattle.proximity.specs.declared.quadratic.Meeting.the-variants as M
 use Rattle.proximity.specs.declared.detect.Proximity.{Proximity}
 use Rattle.proximity.specs.declared.detect.Proximity.the-variants as P
-use Rattle.proximity.specs.declared.conflict.Verdict.{Verdict}
-use Rattle.proximity.specs.declared.conflict.Verdict.the-variants.{Clear, Conflict, Refused}
+use Rattle.conflicts.specs.declared.conflict.Verdict.{Verdict}
+use Rattle.conflicts.specs.declared.conflict.Verdict.the-variants.{Clear, Conflict, Refused}
 
 -- 1e-6.
 abbrev pub slightest : Float

@@ -1,14 +1,14 @@
--- `proximity::conflict::have_conflict` meets its contract: its tests and what each answer leads to are the definition's.
+-- `conflicts::conflict::have_conflict` meets its contract: its tests and what each answer leads to are the definition's.
 -- Assumes nothing.
 use mathlib.Core.Path.{_≡_, sym, _∙_}
 use mathlib.Core.Bool.{true}
 use borrow.Author.Needs.{needs}
 use Rattle.shapes.specs.Box.{overlap}
-use Rattle.proximity.specs.Conflict.{conflictOf}
+use Rattle.conflicts.specs.Conflict.{conflictOf}
 use Rattle.floats.proofs.Tests.{found-true, found-false}
-use Rattle.proximity.proofs.Else.{no-entry, with-entry}
-use Rattle.proximity.proofs.conflict.have_conflict.Statement.{statement}
-use Rattle.proximity.proofs.conflict.have_conflict.Tie as tie
+use Rattle.conflicts.proofs.Else.{no-entry, with-entry}
+use Rattle.conflicts.proofs.conflict.have_conflict.Statement.{statement}
+use Rattle.conflicts.proofs.conflict.have_conflict.Tie as tie
 
 overlaps-requires : tie.Need-overlaps-requires
 overlaps-requires c κs = search needs
