@@ -4,7 +4,6 @@ use numbers::time::TimePoint;
 use shapes::vector::Vector;
 use shapes::waypoint::Leg;
 ghost use mathlib.Core.Path.{_≡_};
-ghost use Rattle.numbers.specs.Time.{secondsOf};
 ghost use Rattle.proximity.specs.Motion.{velocityOver, placeAfter, motionAt};
 
 // A place and a velocity.
