@@ -1,0 +1,45 @@
+// The candidate that may follow one (docs/RULES.md, 12.15 and 12.17).
+use numbers::time::TimePoint;
+use proximity::detect::Proximity;
+ghost use mathlib.Core.Path.{_≡_};
+ghost use Rattle.arrivals.specs.Legs.{follows, sooner};
+
+// None, an instant, or a refusal and its number.
+pub enum Next {
+    Missing,
+    At(TimePoint),
+    Refused(u64),
+}
+
+// The exit of a leg, where it is after the candidate.
+pub fn next_of(near: Proximity, candidate: TimePoint) -> Next
+    ensures { λ r. ⌜ r ≡ follows candidate near ⌝ }
+{
+    match near {
+        Proximity::Refused(n) => Next::Refused(n),
+        Proximity::Never => Next::Missing,
+        Proximity::Enters(_) => Next::Missing,
+        Proximity::Passes(_, exit) => {
+            if candidate.is_before(exit) {
+                return Next::At(exit);
+            }
+            Next::Missing
+        }
+    }
+}
+
+// The smaller of what an obstacle gives and the best so far.
+pub fn sooner_of(check: TimePoint, best: Next) -> Next
+    ensures { λ r. ⌜ r ≡ sooner check best ⌝ }
+{
+    match best {
+        Next::Refused(n) => Next::Refused(n),
+        Next::Missing => Next::At(check),
+        Next::At(t) => {
+            if check.is_before(t) {
+                return Next::At(check);
+            }
+            Next::At(t)
+        }
+    }
+}

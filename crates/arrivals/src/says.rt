@@ -1,0 +1,63 @@
+// What a leg of an obstacle says to a candidate time (docs/RULES.md, 12.7 to 12.9).
+use numbers::time::Duration;
+use numbers::time::Instant;
+use numbers::time::TimePoint;
+use proximity::detect::Proximity;
+ghost use mathlib.Core.Path.{_≡_};
+ghost use Rattle.arrivals.specs.Legs.{meets, relieved};
+
+// Nothing, so that the next leg is asked; that the walk ends unviolated; a violation without an exit; one that is left at an
+// instant; or a refusal and its number.
+pub enum Says {
+    Pass,
+    Clear,
+    Held,
+    Out(TimePoint),
+    Refused(u64),
+}
+
+// While the candidate is not violated.
+pub fn says_meeting(near: Proximity, candidate: TimePoint) -> Says
+    ensures { λ r. ⌜ r ≡ meets candidate near ⌝ }
+{
+    match near {
+        Proximity::Refused(n) => Says::Refused(n),
+        Proximity::Never => Says::Pass,
+        Proximity::Enters(enter) => {
+            if candidate.is_before(enter) {
+                return Says::Clear;
+            }
+            Says::Held
+        }
+        Proximity::Passes(enter, exit) => {
+            if candidate.is_before(enter) {
+                return Says::Clear;
+            }
+            if candidate.is_before(exit) {
+                return Says::Out(exit);
+            }
+            Says::Pass
+        }
+    }
+}
+
+// While it is, and an exit is looked for. One that lies more than 10,000 ns before the candidate is where the Rust asserts.
+pub fn says_exit(near: Proximity, candidate: TimePoint) -> Says
+    ensures { λ r. ⌜ r ≡ relieved candidate near ⌝ }
+{
+    match near {
+        Proximity::Refused(n) => Says::Refused(n),
+        Proximity::Never => Says::Pass,
+        Proximity::Enters(_) => Says::Pass,
+        Proximity::Passes(_, exit) => {
+            let latest = exit.plus(Duration(10000));
+            let Instant::At(late) = latest else {
+                return Says::Refused(7);
+            };
+            if late.is_before(candidate) {
+                return Says::Refused(9);
+            }
+            Says::Out(exit.max(candidate))
+        }
+    }
+}

@@ -1,0 +1,6 @@
+mod Walking
+mod Sweeping
+mod Keeping
+mod Wiping
+mod Telling
+mod Few

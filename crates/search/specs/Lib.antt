@@ -1,0 +1,4 @@
+pub mod Watched
+pub mod Table
+pub mod Listing
+pub mod Asked
