@@ -18,6 +18,23 @@ pub struct RankedHints {
 }
 
 impl RankedHints {
+    // How many of the first 64 hints stand before the place of one more.
+    fn place(self, hint: RankedHint) -> usize
+        requires { ⌜ self .count ≤ 64 ⌝ }
+        ensures { λ r. ⌜ r ≡ placeOf hint (held self) ⌝ }
+    {
+        let n = self.count;
+        let mut i = 0;
+        while i < n {
+            let x = self.all[i];
+            if order::goes_before(hint, x) {
+                return i;
+            }
+            i += 1;
+        }
+        i
+    }
+
     // A refusal: its number alone.
     pub fn refused_by(number: u64) -> RankedHints
         ensures { λ r. ⌜ r ≡ refusedBy number ⌝ }
@@ -68,23 +85,6 @@ impl RankedHints {
         next.count = n + 1;
         next.refused = 0;
         next
-    }
-
-    // How many of the first 64 hints stand before the place of one more.
-    fn place(self, hint: RankedHint) -> usize
-        requires { ⌜ self .count ≤ 64 ⌝ }
-        ensures { λ r. ⌜ r ≡ placeOf hint (held self) ⌝ }
-    {
-        let n = self.count;
-        let mut i = 0;
-        while i < n {
-            let x = self.all[i];
-            if order::goes_before(hint, x) {
-                return i;
-            }
-            i += 1;
-        }
-        i
     }
 
     // One hint more at its place; a 65th is refused 10.
