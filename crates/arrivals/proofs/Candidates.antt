@@ -24,7 +24,7 @@ module _ {Leg : Type 0} (v : View Leg) (Q : TimePoint → Type 0) where
       exit = λ enter exit e.
           let here : List·Memᴰ exit (exitOf (v .near l)) = rw e (List·Memᴰ·head refl) in
           f exit (Memᴰ·append-left (exitsOf v ls) here);
-      refusal = λ n e. tt;
+      refusal = record { own = λ n e. tt; reach = λ enter exit e after. tt };
     },
     legs-give ls (λ t m. f t (Memᴰ·append-right (exitOf (v .near l)) m)),
   )
@@ -53,7 +53,7 @@ module _ {Leg : Type 0} (v : View Leg) (os : List (List Leg)) where
   -- The sweep after the one that began at a begins later, at an exit or a finish (RULES D3b, D3c).
   pub then-later : {a b : TimePoint} → Then v os a b → Later (Among v os) a b
   then-later {a} {b} (pushed s apart) =
-      rose a b apart (rw (sweep-is v s false) at (sweep-gives v (Among v os) Any tt a false os sources))
+      rose a b apart (rw (sweep-is v s false) at (sweep-gives v (Among v os) Any a false os sources))
   then-later {a} {b} (listed s e) = rw e at (soonest-gives v (Among v os) Any a X.Missing os tt sources)
 
   -- So there are fewer left for a sweep to begin at (RULES D3a).

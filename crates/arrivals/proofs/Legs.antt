@@ -17,6 +17,7 @@ use Rattle.proximity.specs.declared.detect.Proximity.{Proximity}
 use Rattle.proximity.specs.declared.detect.Proximity.the-variants as P
 use Rattle.arrivals.specs.Legs.{meets, leftAt, relieved, follows, sooner}
 use Rattle.arrivals.specs.Search.{View, says, exits, nextAt}
+use Rattle.arrivals.specs.Sweeps.{Refuses}
 use Rattle.arrivals.specs.declared.says.Says.{Says}
 use Rattle.arrivals.specs.declared.says.Says.the-variants as S
 use Rattle.arrivals.specs.declared.next.Next.{Next}
@@ -56,10 +57,10 @@ not-before Q c t k q = by (ltZ (c .0) (t .0)) refl
     by false e = inl (same-instant t c k e)
 
 module _ {Leg : Type 0} (v : View Leg) (Q : TimePoint → Type 0) (R : ℕ → Type 0) where
-  -- Q holds of the leg's exit, and R of the number that it is refused by.
+  -- Q holds of the leg's exit, and R of the numbers that it is refused by.
   pub record LegGives (l : Leg) : Type 0 where
     pub exit : (enter exit : TimePoint) → v .near l ≡ P.Passes enter exit → Q exit
-    pub refusal : (n : ℕ) → v .near l ≡ P.Refused n → R n
+    pub refusal : Refuses v R l
 
   -- Its exit is not before c, unless R holds of 9 anyway.
   abbrev pub Timely : TimePoint → Leg → Type 0
@@ -74,7 +75,7 @@ module _ {Leg : Type 0} (v : View Leg) (Q : TimePoint → Type 0) (R : ℕ → T
         let F : Says → Type 0 = OnSays (Onward Q c) R in
         by-cond F (ltZ (c .0) (enter .0)) (λ _. tt) (λ _.
         by-cond F (ltZ (c .0) (exit .0)) (λ k. inr (ltZ-yes (passed k), g .exit enter exit e)) (λ _. tt))
-    meets-gives (P.Refused n) e = g .refusal n e
+    meets-gives (P.Refused n) e = g .refusal .own n e
 
     -- While not violated (RULES 12.6, 12.7).
     pub says-gives : OnSays (Onward Q c) R (says v c l)
@@ -89,14 +90,14 @@ module _ {Leg : Type 0} (v : View Leg) (Q : TimePoint → Type 0) (R : ℕ → T
     follows-gives (P.Enters enter) e = tt
     follows-gives (P.Passes enter exit) e =
         by-cond (OnNext (Later Q c) R) (ltZ (c .0) (exit .0)) (λ k. (ltZ-yes (passed k), g .exit enter exit e)) (λ _. tt)
-    follows-gives (P.Refused n) e = g .refusal n e
+    follows-gives (P.Refused n) e = g .refusal .own n e
 
     -- As the next candidate (RULES 12.15).
     pub next-at-gives : OnNext (Later Q c) R (nextAt v c l)
     next-at-gives =
         by-cond (OnNext (Later Q c) R) (ltZ (v .end l .0) (c .0)) (λ _. tt) (λ _. follows-gives (v .near l) refl)
 
-    module _ (seven : R 7) (timely : Timely c l) where
+    module _ (timely : Timely c l) where
       left-gives : (enter exit : TimePoint) (at : Instant) → v .near l ≡ P.Passes enter exit →
           instantAfter exit (record { 0 = pos 10_000 }) ≡ at → OnSays (Onward Q c) R (leftAt c exit at)
       unfolding laterOf
@@ -108,14 +109,14 @@ module _ {Leg : Type 0} (v : View Leg) (Q : TimePoint → Type 0) (R : ℕ → T
                 (at-most-trans (c .0) (exit .0) (late .0) h (after-not-below exit _ late after (leZ-yes tt)))
           ])
           (λ _. by-cond (Onward Q c) (ltZ (exit .0) (c .0)) (λ _. inl refl) (λ k. not-before Q c exit k (g .exit enter exit e)))
-      left-gives enter exit I.Strayed e after = seven
+      left-gives enter exit I.Strayed e after = g .refusal .reach enter exit e after
 
       relieved-gives : (near : Proximity) → v .near l ≡ near → OnSays (Onward Q c) R (relieved c near)
       unfolding relieved
       relieved-gives P.Never e = tt
       relieved-gives (P.Enters enter) e = tt
       relieved-gives (P.Passes enter exit) e = left-gives enter exit (instantAfter exit (record { 0 = pos 10_000 })) e refl
-      relieved-gives (P.Refused n) e = g .refusal n e
+      relieved-gives (P.Refused n) e = g .refusal .own n e
 
       -- While violated (RULES 12.8, 12.9).
       pub exits-gives : OnSays (Onward Q c) R (exits v c l)

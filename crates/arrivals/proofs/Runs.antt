@@ -101,11 +101,11 @@ module _ {Leg : Type 0} (v : View Leg) (os : List (List Leg)) where
     gone-ran a l m k (T.Refused n) go s h =
         ⊎-elim inl (λ e. inr (e .0, record { at = a; reached = here refl; pushes = e .1 .0; back = e .1 .1 })) s
 
-    module _ (seven : R 7) (gives : All (ObstacleGives v Any R) os) where
+    module _ (gives : All (ObstacleGives v Any R) os) where
       search-ran : (k : ℕ) (a : TimePoint) (l : List TimePoint) (m : ℕ) → Ran a l m k (search v os k a l m)
       unfolding search
       search-ran zero a l m = omega arith
-      search-ran (suc k) a l m = gone-ran a l m k (turn v os a) (search v os k) (turn-told v os R seven gives a) (search-ran k)
+      search-ran (suc k) a l m = gone-ran a l m k (turn v os a) (search v os k) (turn-told v os R gives a) (search-ran k)
 
       -- The other way round (RULES D3a, D3d, D3e).
       pub arrivals-ran : (asked : TimePoint) → Ran asked [] 0 (legsIn os + moving os + 1) (arrivals v os asked)

@@ -1,7 +1,7 @@
 -- The arrival search cannot wander: demand 3, of any legs but where a theorem says what it asks of them.
 -- Assumes nothing.
 use mathlib.Core.Path.{_≡_, refl, ap, _∙_}
-use mathlib.Core.Logic.{_≢_, _↔_, ⊎-elim}
+use mathlib.Core.Logic.{_≢_, _↔_, _⊎_, ⊎-elim}
 use mathlib.Core.List.{List, []}
 use Prim.Native.Nat.{ℕ, _+_, _≤_, _<_}
 use native.Mathlib.Nat.{zero-add}
@@ -9,13 +9,13 @@ use native.Mathlib.Omega.{arith}
 use lib.Signed.{_<ℤ_}
 use Rattle.numbers.specs.declared.time.TimePoint.{TimePoint}
 use Rattle.arrivals.specs.Search.{View, Answered, Refused, Unfinished, arrivals, legsIn, moving}
-use Rattle.arrivals.specs.Sweeps.{All, Rising, Source, Then, Stuck, Gives, Ruled, Early}
+use Rattle.arrivals.specs.Sweeps.{All, Rising, Source, Then, Stuck, Gives, Ruled, Refuses, Early}
 use Rattle.arrivals.proofs.Legs.{Any}
 use Rattle.arrivals.proofs.Remaining.{remaining-bound}
 use Rattle.arrivals.proofs.Candidates.{then-later}
 use Rattle.arrivals.proofs.Runs.{Answers, arrivals-ran, gives-answered, stuck-refused}
 use Rattle.arrivals.proofs.Listing.{gives-listed}
-use Rattle.arrivals.proofs.Refusals.{by-any, not-by-eight, below-eight}
+use Rattle.arrivals.proofs.Refusals.{by-any, not-by-eight, by-legs, below-eight}
 
 -- Each sweep begins later than the one before it, so no two begin at one candidate (RULES D3a, D3b).
 pub later : {Leg : Type 0} (v : View Leg) (os : List (List Leg)) {a b : TimePoint} → Then v os a b → a .0 <ℤ b .0
@@ -24,12 +24,12 @@ later v os t = then-later v os t .0
 module _ {Leg : Type 0} (v : View Leg) (os : List (List Leg)) (asked : TimePoint) where
   answered : {l : List TimePoint} {n : ℕ} →
       arrivals v os asked ≡ Answered l n → Answers v os asked [] 0 (legsIn os + moving os + 1) l n
-  answered e = rw e at (arrivals-ran v os Any tt (by-any v os) asked)
+  answered e = rw e at (arrivals-ran v os Any (by-any v os) asked)
 
   -- The definition's bound is never met (RULES D3a).
   pub finished : arrivals v os asked ≢ Unfinished
   finished e =
-      let many = rw e at (arrivals-ran v os Any tt (by-any v os) asked) in
+      let many = rw e at (arrivals-ran v os Any (by-any v os) asked) in
       omega (arith, remaining-bound v os asked)
 
   -- An answer, list and count, is that of the sequence of sweeps, which has no bound (RULES D3d).
@@ -67,20 +67,21 @@ module _ {Leg : Type 0} (v : View Leg) (os : List (List Leg)) (asked : TimePoint
   pub stuck : All (All (Early v)) os → (arrivals v os asked ≡ Refused 8) ↔ Stuck v os asked
   stuck early = (is-stuck, stuck-is-refused)
     where
-      seven : _≡_ {A = ℕ} 7 8 → ⊥
-      seven same = omega arith
-
       is-stuck : arrivals v os asked ≡ Refused 8 → Stuck v os asked
       is-stuck e =
           let R : ℕ → Type 0 = λ n. n ≢ 8 in
           ⊎-elim (λ not-eight. absurd (not-eight refl)) (λ s. s .1)
-          (rw e at (arrivals-ran v os R seven (not-by-eight v os early) asked))
+          (rw e at (arrivals-ran v os R (not-by-eight v os early) asked))
 
-  -- No search is refused 9 where legs follow one another and none has an exit before its start (RULES 12.9).
+  -- A search that is not stuck is refused as its legs are, where these follow one another and none has an exit before its start
+  -- (RULES 12.9),
+  pub refused : (R : ℕ → Type 0) → All (Ruled v) os → All (All (Refuses v R)) os →
+      {n : ℕ} → arrivals v os asked ≡ Refused n → R n ⊎ ((n ≡ 8) × Stuck v os asked)
+  refused R ruled legs e = rw e at (arrivals-ran v os R (by-legs v os R ruled legs) asked)
+
+  -- so never by 9 where those are below 8.
   pub never-nine : All (Ruled v) os → All (All (Early v)) os → arrivals v os asked ≢ Refused 9
-  never-nine ruled early e =
-      ⊎-elim nine (λ s. eight (s .0))
-      (rw e at (arrivals-ran v os (λ n. n < 8) (omega arith) (below-eight v os ruled early) asked))
+  never-nine ruled early e = ⊎-elim nine (λ s. eight (s .0)) (refused (λ n. n < 8) ruled (below-eight v os early) e)
     where
       nine : 9 < 8 → ⊥
       nine h = omega arith

@@ -66,7 +66,7 @@ module _ {Leg : Type 0} (v : View Leg) (os : List (List Leg)) where
     Told a (T.ListsGoes t) = Sweep v os a zero a × (soonest v a X.Missing os ≡ X.At t)
     Told a (T.Refused m) = R m ⊎ ((m ≡ 8) × ((n : ℕ) × Sweep v os a (suc n) a))
 
-    module _ (seven : R 7) (gives : All (ObstacleGives v Any R) os) (a : TimePoint) where
+    module _ (gives : All (ObstacleGives v Any R) os) (a : TimePoint) where
       listed-told : Sweep v os a zero a → (x : Next) → soonest v a X.Missing os ≡ x → Told a (listed x)
       listed-told s X.Missing e = (s, e)
       listed-told s (X.At t) e = (s, e)
@@ -80,7 +80,7 @@ module _ {Leg : Type 0} (v : View Leg) (os : List (List Leg)) where
           by-cond (Told a) (ltZ (t .0) (a .0)) (λ j. (moved, λ same. before-not-same t a j (sym same))) (λ j.
           inr (refl, (moved .0, subst (Sweep v os a (suc (moved .0))) (same-instant t a j k) (moved .1)))))
       turned-told W.Lost e = lost-sweep v os a e
-      turned-told (W.Refused m) e = inl (rw e at (sweep-gives v Any R seven a false os gives))
+      turned-told (W.Refused m) e = inl (rw e at (sweep-gives v Any R a false os gives))
 
       -- The other way round, all five (RULES 12.11 to 12.14, 12.17).
       pub turn-told : Told a (turn v os a)

@@ -117,40 +117,39 @@ module _ {Leg : Type 0} (v : View Leg) (Q : TimePoint → Type 0) (R : ℕ → T
 
   -- ---- The candidate adjusted (RULES 12.4 to 12.10).
 
-  module _ (seven : R 7) where
-    flee-gives : (c f : TimePoint) (ls : List Leg) → Q f → All (LegGives v Q R) ls → All (Timely v Q R c) ls →
-        OnAdjustment (Onward Q c) R (flee v c f ls)
-    unfolding flee
-    flee-gives c f [] q g timely =
-        by-cond (OnAdjustment (Onward Q c) R) (ltZ (c .0) (f .0)) (λ k. inr (ltZ-yes (passed k), q)) (λ _. tt)
-    flee-gives c f (l ∷ ls) q g timely =
-        let rest = flee-gives c f ls q (g .1) (timely .1) in
-        looked-gives (Onward Q c) R (exits v c l) (λ _. flee v c f ls) (λ _. flee v c f ls)
-        (exits-gives v Q R c l (g .0) seven (timely .0)) rest (λ _. rest)
+  flee-gives : (c f : TimePoint) (ls : List Leg) → Q f → All (LegGives v Q R) ls → All (Timely v Q R c) ls →
+      OnAdjustment (Onward Q c) R (flee v c f ls)
+  unfolding flee
+  flee-gives c f [] q g timely =
+      by-cond (OnAdjustment (Onward Q c) R) (ltZ (c .0) (f .0)) (λ k. inr (ltZ-yes (passed k), q)) (λ _. tt)
+  flee-gives c f (l ∷ ls) q g timely =
+      let rest = flee-gives c f ls q (g .1) (timely .1) in
+      looked-gives (Onward Q c) R (exits v c l) (λ _. flee v c f ls) (λ _. flee v c f ls)
+      (exits-gives v Q R c l (g .0) (timely .0)) rest (λ _. rest)
 
-    look-gives : (c f : TimePoint) (ls : List Leg) → Q f → All (LegGives v Q R) ls → R 9 ⊎ Ruled v ls →
-        OnAdjustment (Onward Q c) R (look v c f ls)
-    unfolding look
-    look-gives c f [] q g nine = tt
-    look-gives c f (l ∷ ls) q g nine =
-        looked-gives (Onward Q c) R (says v c l) (λ _. look v c f ls) (λ _. flee v c f ls)
-        (says-gives v Q R c l (g .0)) (look-gives c f ls q (g .1) (⊎-elim inl (λ ruled. inr (ruled .1 .1)) nine))
-        (λ held. flee-gives c f ls q (g .1) (held-timely c l ls nine held))
+  look-gives : (c f : TimePoint) (ls : List Leg) → Q f → All (LegGives v Q R) ls → R 9 ⊎ Ruled v ls →
+      OnAdjustment (Onward Q c) R (look v c f ls)
+  unfolding look
+  look-gives c f [] q g nine = tt
+  look-gives c f (l ∷ ls) q g nine =
+      looked-gives (Onward Q c) R (says v c l) (λ _. look v c f ls) (λ _. flee v c f ls)
+      (says-gives v Q R c l (g .0)) (look-gives c f ls q (g .1) (⊎-elim inl (λ ruled. inr (ruled .1 .1)) nine))
+      (λ held. flee-gives c f ls q (g .1) (held-timely c l ls nine held))
 
-    adjust-gives : (c : TimePoint) (o : List Leg) → ObstacleGives o → OnAdjustment (Onward Q c) R (adjust v c o)
-    unfolding adjust
-    adjust-gives c [] g = tt
-    adjust-gives c (l ∷ ls) g = look-gives c (finish v l ls) (l ∷ ls) (g .finishes .0) (g .legs) (g .nine)
+  adjust-gives : (c : TimePoint) (o : List Leg) → ObstacleGives o → OnAdjustment (Onward Q c) R (adjust v c o)
+  unfolding adjust
+  adjust-gives c [] g = tt
+  adjust-gives c (l ∷ ls) g = look-gives c (finish v l ls) (l ∷ ls) (g .finishes .0) (g .legs) (g .nine)
 
-    -- A sweep leaves the candidate, or takes it to a later exit or finish (RULES 12.4).
-    pub sweep-gives : (c : TimePoint) (pushed : Bool) (os : List (List Leg)) → All ObstacleGives os →
-        OnSwept (Onward Q c) R (sweep v c pushed os)
-    unfolding sweep
-    sweep-gives c true [] g = inl refl
-    sweep-gives c false [] g = tt
-    sweep-gives c pushed (o ∷ os) g =
-        swept-gives Q R (adjust v c o) c pushed (λ t p. sweep v t p os)
-        (adjust-gives c o (g .0)) (λ t p. sweep-gives t p os (g .1))
+  -- A sweep leaves the candidate, or takes it to a later exit or finish (RULES 12.4).
+  pub sweep-gives : (c : TimePoint) (pushed : Bool) (os : List (List Leg)) → All ObstacleGives os →
+      OnSwept (Onward Q c) R (sweep v c pushed os)
+  unfolding sweep
+  sweep-gives c true [] g = inl refl
+  sweep-gives c false [] g = tt
+  sweep-gives c pushed (o ∷ os) g =
+      swept-gives Q R (adjust v c o) c pushed (λ t p. sweep v t p os)
+      (adjust-gives c o (g .0)) (λ t p. sweep-gives t p os (g .1))
 
   -- ---- The next candidate (RULES 12.15 to 12.17).
 

@@ -4,8 +4,11 @@ use Prim.Native.Nat.{ℕ, zero, suc, _<_}
 use mathlib.Core.Path.{_≡_}
 use mathlib.Core.Logic.{_≢_, _⊎_}
 use mathlib.Core.List.{List, [], _∷_, _++_, List·Memᴰ}
+use lib.IntN.{pos}
 use lib.Signed.{_<ℤ_, _≤ℤ_}
+use Rattle.numbers.specs.Time.{instantAfter}
 use Rattle.numbers.specs.declared.time.TimePoint.{TimePoint}
+use Rattle.numbers.specs.declared.time.Instant.the-variants as I
 use Rattle.proximity.specs.declared.detect.Proximity.{Proximity}
 use Rattle.proximity.specs.declared.detect.Proximity.the-variants as P
 use Rattle.arrivals.specs.Search.{View, finish, adjust, soonest}
@@ -115,6 +118,12 @@ module _ {Leg : Type 0} (v : View Leg) where
   abbrev pub Ruled : List Leg → Type 0
   Ruled [] = Unit {0}
   Ruled (l ∷ ls) = Fair l × (Joined l ls × Ruled ls)
+
+  -- R holds of the number that a leg is refused by, and of 7 where 10,000 ns after its exit are past 2^53 ns (RULES 4.7, 12.9).
+  pub record Refuses (R : ℕ → Type 0) (l : Leg) : Type 0 where
+    pub own : (n : ℕ) → v .near l ≡ P.Refused n → R n
+    pub reach : (enter exit : TimePoint) → v .near l ≡ P.Passes enter exit →
+        instantAfter exit (record { 0 = pos 10_000 }) ≡ I.Strayed → R 7
 
   -- A leg refuses by a number below 8.
   abbrev pub Early : Leg → Type 0

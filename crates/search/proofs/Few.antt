@@ -27,7 +27,7 @@ unfolding watchedLegs
 length-watched limit [] = refl
 length-watched limit (leg ∷ legs) = ap suc (length-watched limit legs)
 
-legs-watched : (p : CircularProfile) (os : List Obstacle) → legsIn (watchedAll p os) ≡ legsInAll os
+pub legs-watched : (p : CircularProfile) (os : List Obstacle) → legsIn (watchedAll p os) ≡ legsInAll os
 unfolding legsIn watchedAll legsInAll
 legs-watched p [] = refl
 legs-watched p (o ∷ os) =

@@ -3,4 +3,4 @@ mod Sweeping
 mod Keeping
 mod Wiping
 mod Telling
-mod Few
+pub mod Few

@@ -1,0 +1,3 @@
+pub mod RealLegs
+mod Table
+pub mod DemandThree
