@@ -1,3 +1,4 @@
 pub mod RealLegs
 mod Table
 pub mod DemandThree
+pub mod Marked
