@@ -1,5 +1,6 @@
 //! Questions for single calls, drawn from requests of every kind.
 
+use planner::domain;
 use planner::generate::dice::Dice;
 use planner::generate::{case, Kind};
 use planner::request::Request;
@@ -136,6 +137,22 @@ impl Drawn {
             2 => words + 3,
             _ => words,
         }
+    }
+}
+
+/// The nearest coordinate that is on the floor.
+pub fn on_floor(x: f64) -> f64 {
+    x.clamp(-domain::FARTHEST, domain::FARTHEST)
+}
+
+/// By a chance: leaves an obstacle a single waypoint, lets its times fall, or takes its trajectory;
+/// mostly it stays as it is.
+pub fn misshape(o: &mut Obstacle, chance: i64) {
+    match chance {
+        0 => o.waypoints.truncate(1),
+        1 => o.waypoints.reverse(),
+        2 => o.waypoints.clear(),
+        _ => (),
     }
 }
 

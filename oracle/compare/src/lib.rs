@@ -2,7 +2,9 @@
 
 pub mod draw;
 pub mod layers;
+pub mod lent;
 pub mod proved;
 pub mod report;
 pub mod room;
 pub mod table;
+pub mod visits;

@@ -2,7 +2,7 @@
 
 use crate::table::Table;
 use mapf::ask::Bounds;
-use terms::{Leg, Obstacle, Profile};
+use terms::{Leg, Obstacle, Profile, Waypoint};
 
 extern "C" {
     fn igelbert_square_root(x: f64, out: *mut u64, out_len: usize) -> u64;
@@ -103,6 +103,25 @@ extern "C" {
         t1: i64,
         x1: f64,
         y1: f64,
+        starts: *const usize,
+        starts_len: usize,
+        numbers: *const f64,
+        numbers_len: usize,
+        times: *const i64,
+        times_len: usize,
+        xs: *const f64,
+        xs_len: usize,
+        ys: *const f64,
+        ys_len: usize,
+        out: *mut u64,
+        out_len: usize,
+    ) -> u64;
+    fn igelbert_arrival_times(
+        footprint: f64,
+        follow: f64,
+        t: i64,
+        x: f64,
+        y: f64,
         starts: *const usize,
         starts_len: usize,
         numbers: *const f64,
@@ -353,6 +372,30 @@ pub fn wait_hints(p: Profile, (a, b): Leg, table: &Table, out: &mut [u64]) -> u6
             b.time,
             b.x,
             b.y,
+            table.starts.as_ptr(),
+            table.starts.len(),
+            table.numbers.as_ptr(),
+            table.numbers.len(),
+            table.times.as_ptr(),
+            table.times.len(),
+            table.xs.as_ptr(),
+            table.xs.len(),
+            table.ys.as_ptr(),
+            table.ys.len(),
+            out.as_mut_ptr(),
+            out.len(),
+        )
+    }
+}
+
+pub fn arrival_times(p: Profile, place: Waypoint, table: &Table, out: &mut [u64]) -> u64 {
+    unsafe {
+        igelbert_arrival_times(
+            p.footprint,
+            p.follow,
+            place.time,
+            place.x,
+            place.y,
             table.starts.as_ptr(),
             table.starts.len(),
             table.numbers.as_ptr(),

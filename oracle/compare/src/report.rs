@@ -7,9 +7,12 @@ use std::fmt;
 /// How many differences are told in full.
 const TOLD: usize = 10;
 
+/// How many calls ended in each number.
+type Ends = BTreeMap<u64, usize>;
+
 #[derive(Default)]
 pub struct Report {
-    ends: BTreeMap<&'static str, BTreeMap<u64, usize>>,
+    ends: BTreeMap<&'static str, Ends>,
     seen: BTreeMap<&'static str, usize>,
     differing: usize,
     told: Vec<String>,
@@ -50,20 +53,35 @@ impl Report {
     pub fn differing(&self) -> usize {
         self.differing
     }
+
+    fn in_all(&self) -> Ends {
+        let mut all = Ends::new();
+        for (number, count) in self.ends.values().flatten() {
+            *all.entry(*number).or_default() += count;
+        }
+        all
+    }
+}
+
+fn tell(f: &mut fmt::Formatter<'_>, call: &str, ends: &Ends) -> fmt::Result {
+    let calls: usize = ends.values().sum();
+    write!(f, "  {call}: {calls} calls")?;
+    for (number, count) in ends {
+        match number {
+            0 => write!(f, ", answered {count}")?,
+            n => write!(f, ", refused {n} {count}")?,
+        }
+    }
+    writeln!(f)
 }
 
 impl fmt::Display for Report {
     fn fmt(&self, f: &mut fmt::Formatter<'_>) -> fmt::Result {
         for (call, ends) in &self.ends {
-            let all: usize = ends.values().sum();
-            write!(f, "  {call}: {all} calls")?;
-            for (number, count) in ends {
-                match number {
-                    0 => write!(f, ", answered {count}")?,
-                    n => write!(f, ", refused {n} {count}")?,
-                }
-            }
-            writeln!(f)?;
+            tell(f, call, ends)?;
+        }
+        if self.ends.len() > 1 {
+            tell(f, "in all", &self.in_all())?;
         }
         for (sort, count) in &self.seen {
             writeln!(f, "  seen: {sort} {count}")?;

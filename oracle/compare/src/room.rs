@@ -18,11 +18,22 @@ pub struct Handed {
 
 const NO_ROOM: u64 = 12;
 
+/// A call that is refused after some work may have put its first results into so many words.
+const CLEARED: usize = 20;
+
 impl Expected {
     /// The refusal in the place of a fault of the Rust's; a number that none has, where the rules
     /// name none.
     pub fn fault(fault: &Fault) -> Self {
         Expected::Refused(fault.number().map_or(u64::MAX, u64::from))
+    }
+
+    /// A room that suits it: for an answer its own words, for a refusal some that it must clear.
+    pub fn room(&self) -> usize {
+        match self {
+            Expected::Words(words) => words.len(),
+            Expected::Refused(_) => CLEARED,
+        }
     }
 
     /// The number and the room that a call lent so many words must leave (RULES 4.12, 4.14, 4.15).

@@ -2,11 +2,11 @@
 //! field of every hint by its bits, and their order. Where contour and reach are both equal the
 //! Rust's order is open (RULES 11.7); there its own order of finding decides.
 
-use crate::draw::{each, Drawn};
+use crate::draw::{each, misshape, on_floor, Drawn};
+use crate::lent::ask_once;
 use crate::proved;
 use crate::report::Report;
-use crate::room::{lend, Expected};
-use crate::table::Table;
+use crate::room::Expected;
 use mapf_watched::ask;
 use planner::domain;
 use planner::generate::dice::Dice;
@@ -18,32 +18,27 @@ const SHORT: i64 = 10;
 
 const NO_LINE: u64 = 4;
 
+/// In one case of so many the lists do not fit one another.
+const SPOILT_IN: u32 = 64;
+
 pub fn compare(seed: u64, count: u64) -> Report {
     let mut report = Report::default();
     each(seed, count, |drawn| {
         let request = asked(drawn);
         let (profile, leg) = (request.scene.agent, (request.from, request.to));
-        let mut table = Table::of(&request.scene);
-        let spoilt = drawn.dice.one_in(64) && table.spoil(&mut drawn.dice);
-        let expected = match spoilt {
-            true => Expected::Refused(2),
-            false => expected(&request),
+        let right = |report: &mut Report| {
+            let expected = expected(&request);
+            look(report, &expected);
+            expected
         };
-        look(&mut report, &expected);
-        let words = match &expected {
-            Expected::Words(words) => words.len(),
-            Expected::Refused(_) => 1,
-        };
-        let len = drawn.room(words);
-        let handed = lend(len, |out| proved::wait_hints(profile, leg, &table, out));
-        let kind = if spoilt {
-            "spoilt lists"
-        } else {
-            drawn.kind.name()
-        };
-        report.add(kind, &handed, &expected.in_room(len), || {
-            format!("{request:?} as {table:?} in {len} words")
-        });
+        ask_once(
+            &mut report,
+            drawn,
+            &request,
+            SPOILT_IN,
+            right,
+            |table, out| proved::wait_hints(profile, leg, table, out),
+        );
     });
     report
 }
@@ -86,10 +81,9 @@ fn asked(drawn: &mut Drawn) -> Request {
     }
     if !obstacles.is_empty() {
         let at = d.count(0, obstacles.len() - 1);
-        match d.whole(0, 31) {
-            0 => obstacles[at].waypoints.truncate(1),
-            1 => obstacles[at].waypoints.reverse(),
-            2 => obstacles[at].waypoints.clear(),
+        let chance = d.whole(0, 31);
+        misshape(&mut obstacles[at], chance);
+        match chance {
             3..=5 => obstacles.push(obstacles[at].clone()),
             6 => obstacles.swap(0, at),
             _ => (),
@@ -106,9 +100,7 @@ fn across(d: &mut Dice, (from, to): Leg, profile: Profile) -> Obstacle {
     let lasts = to.time.saturating_sub(from.time).max(2);
     let (ahead, aside) = d.pick(&[(0.0, 1.0), (0.5, 1.0), (0.5, 0.0), (-0.5, 0.25), (0.0, 0.5)]);
     let at = |side: f64, time: i64| {
-        let place = |middle: f64, moved: f64| {
-            (middle + side * moved).clamp(-domain::FARTHEST, domain::FARTHEST)
-        };
+        let place = |middle: f64, moved: f64| on_floor(middle + side * moved);
         Waypoint::new(
             time.clamp(0, domain::LATEST),
             place(x, ahead * dx - aside * dy),

@@ -1,5 +1,6 @@
 //! One file for each layer that is compared.
 
+pub mod arrivals;
 pub mod boxes;
 pub mod conflict;
 pub mod hints;
@@ -59,5 +60,9 @@ pub const ALL: &[Layer] = &[
     Layer {
         name: "hints",
         compare: hints::compare,
+    },
+    Layer {
+        name: "arrivals",
+        compare: arrivals::compare,
     },
 ];

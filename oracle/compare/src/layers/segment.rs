@@ -1,41 +1,38 @@
 //! Whether a leg of the agent's is safe among all obstacles (RULES 9.7 to 9.11), the table lent as
 //! lists, in some cases lists that do not fit one another.
 
-use crate::draw::{each, Drawn};
+use crate::draw::{each, misshape, Drawn};
+use crate::lent::ask_once;
 use crate::proved;
 use crate::report::Report;
-use crate::room::{lend, Expected};
-use crate::table::Table;
+use crate::room::Expected;
 use mapf::ask;
 use planner::domain;
 use planner::request::Request;
+
+/// In one case of so many the lists do not fit one another.
+const SPOILT_IN: u32 = 16;
 
 pub fn compare(seed: u64, count: u64) -> Report {
     let mut report = Report::default();
     each(seed, count, |drawn| {
         let request = asked(drawn);
         let (profile, leg) = (request.scene.agent, (request.from, request.to));
-        let mut table = Table::of(&request.scene);
-        let spoilt = drawn.dice.one_in(16) && table.spoil(&mut drawn.dice);
-        let expected = match spoilt {
-            true => Expected::Refused(2),
-            false => expected(&request),
+        let right = |report: &mut Report| {
+            let expected = expected(&request);
+            if let Expected::Words(words) = &expected {
+                report.see(["safe", "not safe"][words[0] as usize]);
+            }
+            expected
         };
-        if let Expected::Words(words) = &expected {
-            report.see(["safe", "not safe"][words[0] as usize]);
-        }
-        let len = drawn.room(1);
-        let handed = lend(len, |out| {
-            proved::is_safe_segment(profile, leg, &table, out)
-        });
-        let kind = if spoilt {
-            "spoilt lists"
-        } else {
-            drawn.kind.name()
-        };
-        report.add(kind, &handed, &expected.in_room(len), || {
-            format!("{request:?} as {table:?} in {len} words")
-        });
+        ask_once(
+            &mut report,
+            drawn,
+            &request,
+            SPOILT_IN,
+            right,
+            |table, out| proved::is_safe_segment(profile, leg, table, out),
+        );
     });
     report
 }
@@ -52,12 +49,7 @@ fn asked(drawn: &mut Drawn) -> Request {
     };
     let d = &mut drawn.dice;
     if let Some(o) = request.scene.obstacles.first_mut() {
-        match d.whole(0, 39) {
-            0 => o.waypoints.truncate(1),
-            1 => o.waypoints.reverse(),
-            2 => o.waypoints.clear(),
-            _ => (),
-        }
+        misshape(o, d.whole(0, 39));
     }
     if d.one_in(64) {
         let legs = d.pick(&[255, 256, 257]) - request.scene.legs() as i64;
