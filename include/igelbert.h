@@ -118,6 +118,15 @@ uint64_t igelbert_wait_hints(double footprint, double follow, int64_t t0, double
     const double *xs, size_t xs_len, const double *ys, size_t ys_len, uint64_t *out,
     size_t out_len);
 
+/* When the agent may arrive at (x, y), from t on, and stand there among the obstacles of such a table:
+ * how many times there are, at most 289, by how many sweeps they were found, then the times, each an
+ * instant (docs/RULES.md, section 12). A room of 291 words is enough. Refused 5: an obstacle's leg
+ * creeps; 8: the search is stuck, a whole sweep of pushes ends where it began. */
+uint64_t igelbert_arrival_times(double footprint, double follow, int64_t t, double x, double y,
+    const size_t *starts, size_t starts_len, const double *numbers, size_t numbers_len,
+    const int64_t *times, size_t times_len, const double *xs, size_t xs_len, const double *ys,
+    size_t ys_len, uint64_t *out, size_t out_len);
+
 #ifdef __cplusplus
 }
 #endif

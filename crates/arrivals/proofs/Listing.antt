@@ -1,9 +1,12 @@
--- A sequence of sweeps lists rising instants, each the time asked for, a leg's exit or an obstacle's finish (RULES D3b, D3c).
+-- A sequence of sweeps lists rising instants, each the time asked for, a leg's exit or an obstacle's finish (RULES D3b, D3c), and
+-- no more of them than it has sweeps (RULES 12.14).
 -- Assumes nothing.
-use mathlib.Core.Path.{refl}
+use mathlib.Core.Path.{refl, ap}
 use mathlib.Core.Logic.{inl, inr}
 use mathlib.Core.List.{List, [], _∷_, _++_}
-use Prim.Native.Nat.{ℕ}
+use Prim.Native.Nat.{ℕ, _+_, _≤_}
+use native.Mathlib.Omega.{arith}
+use lib.ListN.{length, length-append}
 use lib.Signed.{_<ℤ_}
 use Rattle.numbers.specs.declared.time.TimePoint.{TimePoint}
 use Rattle.arrivals.specs.Search.{View}
@@ -55,3 +58,11 @@ module _ {Leg : Type 0} (v : View Leg) (os : List (List Leg)) (asked : TimePoint
   -- Whatever the sequence lists from the time asked for on (RULES D3b, D3c).
   pub gives-listed : {r : List TimePoint} {n : ℕ} → Gives v os asked [] r n → Listed r
   gives-listed g = given-listed g (record { listed = record { rising = tt; sources = tt }; before = tt; source = inl refl })
+
+-- A sweep lists one time at most (RULES 12.14).
+pub gives-fewer : {Leg : Type 0} {v : View Leg} {os : List (List Leg)} {a : TimePoint} {l r : List TimePoint} {n : ℕ} →
+    Gives v os a l r n → length r ≤ length l + n
+gives-fewer (ends s e) = let same = ap length e in omega arith
+gives-fewer (lists {a} {l} s f e) = let same = ap length e in omega (arith, length-append l (a ∷ []))
+gives-fewer (goes s apart g) = let fewer = gives-fewer g in omega arith
+gives-fewer (lists-goes {a} {l} s f g) = let fewer = gives-fewer g in omega (arith, length-append l (a ∷ []))

@@ -6,6 +6,7 @@ use mathlib.Core.List.{List, []}
 use Prim.Native.Nat.{ℕ, _+_, _≤_, _<_}
 use native.Mathlib.Nat.{zero-add}
 use native.Mathlib.Omega.{arith}
+use lib.ListN.{length}
 use lib.Signed.{_<ℤ_}
 use Rattle.numbers.specs.declared.time.TimePoint.{TimePoint}
 use Rattle.arrivals.specs.Search.{View, Answered, Refused, Unfinished, arrivals, legsIn, moving}
@@ -14,7 +15,7 @@ use Rattle.arrivals.proofs.Legs.{Any}
 use Rattle.arrivals.proofs.Remaining.{remaining-bound}
 use Rattle.arrivals.proofs.Candidates.{then-later}
 use Rattle.arrivals.proofs.Runs.{Answers, arrivals-ran, gives-answered, stuck-refused}
-use Rattle.arrivals.proofs.Listing.{gives-listed}
+use Rattle.arrivals.proofs.Listing.{gives-listed, gives-fewer}
 use Rattle.arrivals.proofs.Refusals.{by-any, not-by-eight, by-legs, below-eight}
 
 -- Each sweep begins later than the one before it, so no two begin at one candidate (RULES D3a, D3b).
@@ -48,6 +49,10 @@ module _ {Leg : Type 0} (v : View Leg) (os : List (List Leg)) (asked : TimePoint
   -- At most L + O + 1 sweeps (RULES D3a).
   pub at-most : {l : List TimePoint} {n : ℕ} → arrivals v os asked ≡ Answered l n → n ≤ legsIn os + moving os + 1
   at-most e = let a = answered e in omega arith
+
+  -- No more times than sweeps (RULES 12.14).
+  pub fewer : {l : List TimePoint} {n : ℕ} → arrivals v os asked ≡ Answered l n → length l ≤ n
+  fewer e = let a = answered e in let few = gives-fewer (a .given) in omega (arith, a .counted)
 
   -- The times listed rise strictly (RULES D3b).
   pub rising : {l : List TimePoint} {n : ℕ} → arrivals v os asked ≡ Answered l n → Rising l

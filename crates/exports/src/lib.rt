@@ -1,4 +1,5 @@
 // The calls for C and Rust, one for each public call of the layers, as include/igelbert.h describes them.
+pub mod arrival_calls;
 pub mod hint_calls;
 pub mod line_calls;
 pub mod proximity_calls;

@@ -1,1 +1,2 @@
+mod ArrivalWords
 mod HintWords

@@ -39,8 +39,8 @@ shaped-legs lent e =
     let os = obstaclesOf lent in
     leb-true (legsInAll os) 256 (both (leb (length os) 32) (leb (legsInAll os) 256) (shaped-few lent e) .1)
 
--- An input that is accepted has a table of the right shape, so at most 32 obstacles (RULES 5.1).
-fine-shaped : (p : CircularProfile) (agent : Leg) (lent : Lent) → agentExamined p agent lent ≡ Fine → isShaped lent ≡ true
+-- An input that is accepted has a table of the right shape (RULES 5.1),
+pub fine-shaped : (p : CircularProfile) (agent : Leg) (lent : Lent) → agentExamined p agent lent ≡ Fine → isShaped lent ≡ true
 unfolding agentExamined
 fine-shaped p agent lent e = by (isShaped lent) _ e
   where
@@ -48,6 +48,7 @@ fine-shaped p agent lent e = by (isShaped lent) _ e
     by true rest e = refl
     by false rest e = cc
 
+-- so at most 32 obstacles.
 pub fine-starts : (p : CircularProfile) (agent : Leg) (lent : Lent) →
     agentExamined p agent lent ≡ Fine → length (lent .starts) ≤ 32
 fine-starts p agent lent e = shaped-starts lent (fine-shaped p agent lent e)

@@ -1,25 +1,29 @@
--- An input that is accepted has few legs and obstacles, so that a search makes few sweeps (RULES 3.5, 12.19).
+-- An input that is accepted has few legs and obstacles, so that a search makes few sweeps and lists few times
+-- (RULES 3.5, 12.19).
 -- Assumes nothing.
-use Prim.Native.Nat.{suc, _+_, _-_, _≤_}
-use mathlib.Core.Path.{_≡_, refl, ap, _∙_}
-use mathlib.Core.Bool.{Bool, true, false, cond}
+use Prim.Native.Nat.{ℕ, suc, _+_, _≤_}
+use mathlib.Core.Path.{_≡_, refl, ap}
+use mathlib.Core.Bool.{true≢false}
 use mathlib.Core.List.{List, [], _∷_}
-use native.Mathlib.Nat.{sub-zero}
 use native.Mathlib.Omega.{arith}
 use lib.Ieee.{Float}
 use lib.ListN.{length}
-use Rattle.lists.proofs.Listed.{length-listed}
+use Rattle.numbers.specs.declared.time.TimePoint.{TimePoint}
 use Rattle.shapes.specs.Distance.{criticalDistanceSquared}
 use Rattle.shapes.specs.declared.domain.Examined.{Examined}
-use Rattle.shapes.specs.declared.domain.Examined.the-variants.{Fine, Refused}
+use Rattle.shapes.specs.declared.domain.Examined.the-variants as X
 use Rattle.shapes.specs.declared.profile.CircularProfile.{CircularProfile}
 use Rattle.shapes.specs.declared.waypoint.Leg.{Leg}
+use Rattle.shapes.specs.declared.waypoint.Waypoint.{Waypoint}
 use Rattle.obstacles.specs.Obstacle.{Obstacle, legsOf}
-use Rattle.obstacles.specs.Lent.{Lent, boxOf, obstacleIn, obstaclesWith, obstaclesOf}
-use Rattle.obstacles.specs.Examined.{legsInAll, isShaped, agentExamined}
-use Rattle.obstacles.proofs.Shaped.{shaped-starts, shaped-legs}
-use Rattle.arrivals.specs.Search.{legsIn, moving}
-use Rattle.search.specs.Watched.{watchedLegs, watchedAll}
+use Rattle.obstacles.specs.Lent.{Lent, obstaclesOf}
+use Rattle.obstacles.specs.Examined.{legsInAll, agentExamined}
+use Rattle.obstacles.proofs.Counting.{obstacles-count}
+use Rattle.obstacles.proofs.Shaped.{shaped-starts, shaped-legs, fine-shaped}
+use Rattle.arrivals.specs.Search.{Answered, arrivals, legsIn, moving}
+use Rattle.arrivals.proofs.Theorems.{at-most, fewer}
+use Rattle.search.specs.Watched.{Watched, viewAt, watchedLegs, watchedAll, arrivalsAt}
+use Rattle.search.specs.Asked.{askedArrivals}
 
 -- Every leg is watched,
 length-watched : (limit : Float) (legs : List Leg) → length (watchedLegs limit legs) ≡ length legs
@@ -47,21 +51,8 @@ unfolding watchedAll
 watched-count p [] = refl
 watched-count p (o ∷ os) = ap suc (watched-count p os)
 
-obstacles-count : (lent : Lent) → length (obstaclesOf lent) ≡ length (lent .starts)
-unfolding obstaclesOf obstaclesWith
-obstacles-count lent =
-    let n = length (lent .starts) in length-listed (obstacleIn lent (boxOf lent)) (n - 0) 0 ∙ sub-zero n
-
-fine-shaped : (p : CircularProfile) (agent : Leg) (lent : Lent) → agentExamined p agent lent ≡ Fine → isShaped lent ≡ true
-unfolding agentExamined
-fine-shaped p agent lent e = by (isShaped lent) _ e
-  where
-    by : (t : Bool) (rest : Examined) → cond t rest (Refused 2) ≡ Fine → t ≡ true
-    by true rest e = refl
-    by false rest e = cc
-
 -- At most 256 legs and 32 obstacles.
-pub fine-few : (p : CircularProfile) (agent : Leg) (lent : Lent) → agentExamined p agent lent ≡ Fine →
+pub fine-few : (p : CircularProfile) (agent : Leg) (lent : Lent) → agentExamined p agent lent ≡ X.Fine →
     legsIn (watchedAll p (obstaclesOf lent)) + moving (watchedAll p (obstaclesOf lent)) ≤ 288
 fine-few p agent lent e =
     let os = obstaclesOf lent in
@@ -70,3 +61,21 @@ fine-few p agent lent e =
     let all = watched-count p os in
     let obstacles = moving-few (watchedAll p os) in
     omega (arith, shaped-legs lent shaped, shaped-starts lent shaped, obstacles-count lent)
+
+-- So a search that is answered makes at most 289 sweeps, and lists no more times than that (RULES 12.14, 12.19).
+pub asked-few : (p : CircularProfile) (g : Waypoint) (lent : Lent) (l : List TimePoint) (n : ℕ) →
+    askedArrivals p g lent ≡ Answered l n → length l ≤ 289
+unfolding askedArrivals arrivalsAt
+asked-few p g lent l n e = by (agentExamined p agent lent) refl
+  where
+    agent : Leg
+    agent = record { start = g; end = g }
+
+    by : (x : Examined) → agentExamined p agent lent ≡ x → length l ≤ 289
+    by X.Fine fine =
+        let os : List (List Watched) = watchedAll p (obstaclesOf lent) in
+        let answer : arrivals (viewAt g) os (g .time) ≡ Answered l n = rw fine at e in
+        let times = fewer (viewAt g) os (g .time) answer in
+        let sweeps = at-most (viewAt g) os (g .time) answer in
+        omega (arith, fine-few p agent lent fine)
+    by (X.Refused m) refused = absurd (true≢false (cc (rw refused at e)))

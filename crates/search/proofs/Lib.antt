@@ -4,3 +4,4 @@ mod Keeping
 mod Wiping
 mod Telling
 pub mod Few
+pub mod Words
