@@ -1,6 +1,7 @@
 // What trying a hint comes to, with the pops made so far (docs/RULES.md, 13.10 to 13.21).
 ghost use mathlib.Core.Path.{_≡_};
-ghost use Rattle.chains.specs.Handed.{plain, onto};
+ghost use lib.ListN.{length};
+ghost use Rattle.chains.specs.Handed.{linksIn, plain, onto};
 
 // A chain was found; the hint's way to its parent is not safe; that way is safe, and no way to the hint is; or a refusal.
 pub enum Ending {
@@ -20,6 +21,19 @@ pub struct Tried {
     pub ending: Ending,
     pub pops: u64,
     pub chain: Chain,
+}
+
+impl Chain {
+    // How many hints there are.
+    pub fn len(self) -> usize
+        ensures { λ r. ⌜ r ≡ length (linksIn self) ⌝ }
+    {
+        let n = self.count;
+        if 64 < n {
+            return 64;
+        }
+        n
+    }
 }
 
 impl Tried {
