@@ -30,7 +30,18 @@ pub fn to_end(
     match arrival {
         Reached::Refused(n) => Trial::Refused(n),
         Reached::At(w) => {
-            way::both_ways(trip.profile, hint, w, end, starts, numbers, times, xs, ys, boxes)
+            way::both_ways(
+                trip.profile,
+                hint,
+                w,
+                end,
+                starts,
+                numbers,
+                times,
+                xs,
+                ys,
+                boxes,
+            )
         }
     }
 }
@@ -74,7 +85,17 @@ fn waits_at(
     if hint.time.is_before(arrival.time) {
         return Trial::Failed;
     }
-    way::safe_way(trip.profile, arrival, hint, starts, numbers, times, xs, ys, boxes)
+    way::safe_way(
+        trip.profile,
+        arrival,
+        hint,
+        starts,
+        numbers,
+        times,
+        xs,
+        ys,
+        boxes,
+    )
 }
 
 // From the start to the waypoint of a hint.
@@ -96,7 +117,17 @@ pub fn from_start(
     match arrival {
         Reached::Refused(n) => Trial::Refused(n),
         Reached::At(w) => {
-            let first = way::safe_way(trip.profile, start, w, starts, numbers, times, xs, ys, boxes);
+            let first = way::safe_way(
+                trip.profile,
+                start,
+                w,
+                starts,
+                numbers,
+                times,
+                xs,
+                ys,
+                boxes,
+            );
             let Trial::Passed = first else {
                 return first;
             };
@@ -127,7 +158,17 @@ fn stays_till(
         x: arrival.x,
         y: arrival.y,
     };
-    way::safe_way(trip.profile, arrival, end, starts, numbers, times, xs, ys, boxes)
+    way::safe_way(
+        trip.profile,
+        arrival,
+        end,
+        starts,
+        numbers,
+        times,
+        xs,
+        ys,
+        boxes,
+    )
 }
 
 // Straight from the start to the goal, and staying there until the time asked for: `can_arrive_safely` of the Rust.
@@ -150,7 +191,17 @@ pub fn can_arrive_safely(
     match arrival {
         Reached::Refused(n) => Trial::Refused(n),
         Reached::At(w) => {
-            let first = way::safe_way(trip.profile, start, w, starts, numbers, times, xs, ys, boxes);
+            let first = way::safe_way(
+                trip.profile,
+                start,
+                w,
+                starts,
+                numbers,
+                times,
+                xs,
+                ys,
+                boxes,
+            );
             let Trial::Passed = first else {
                 return first;
             };
