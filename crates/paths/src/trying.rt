@@ -108,10 +108,34 @@ fn try_hint(
         return Tried::ended(Ending::Refused(11), pops);
     }
     let made = pops + 1;
-    let trial = way_up(trip, hints, starts, numbers, times, xs, ys, boxes, i, parent);
+    let trial = way_up(
+        trip,
+        hints,
+        starts,
+        numbers,
+        times,
+        xs,
+        ys,
+        boxes,
+        i,
+        parent,
+    );
     match trial {
         Trial::Passed => {
-            try_children(trip, hints, budget, starts, numbers, times, xs, ys, boxes, i, i, made)
+            try_children(
+                trip,
+                hints,
+                budget,
+                starts,
+                numbers,
+                times,
+                xs,
+                ys,
+                boxes,
+                i,
+                i,
+                made,
+            )
         }
         Trial::Failed => Tried::ended(Ending::Blocked, made),
         Trial::Refused(n) => Tried::ended(Ending::Refused(n), made),
@@ -143,7 +167,18 @@ fn try_children(
     if is_in_reach(hints, child, i) {
         let parent = Parent::Hint(i);
         let tried = try_hint(
-            trip, hints, budget, starts, numbers, times, xs, ys, boxes, child, parent, pops,
+            trip,
+            hints,
+            budget,
+            starts,
+            numbers,
+            times,
+            xs,
+            ys,
+            boxes,
+            child,
+            parent,
+            pops,
         );
         let ending = tried.ending;
         match ending {
@@ -160,7 +195,20 @@ fn try_children(
     if budget <= made {
         return Tried::ended(Ending::Refused(11), made);
     }
-    try_children(trip, hints, budget, starts, numbers, times, xs, ys, boxes, i, child, made + 1)
+    try_children(
+        trip,
+        hints,
+        budget,
+        starts,
+        numbers,
+        times,
+        xs,
+        ys,
+        boxes,
+        i,
+        child,
+        made + 1,
+    )
 }
 
 // The roots from one on: only one whose own way to the goal is blocked moves up.
@@ -184,7 +232,18 @@ fn try_roots(
     while root < count {
         let parent = Parent::Goal;
         let tried = try_hint(
-            trip, hints, budget, starts, numbers, times, xs, ys, boxes, root, parent, pops,
+            trip,
+            hints,
+            budget,
+            starts,
+            numbers,
+            times,
+            xs,
+            ys,
+            boxes,
+            root,
+            parent,
+            pops,
         );
         let ending = tried.ending;
         let Ending::Blocked = ending else {
@@ -215,7 +274,18 @@ pub fn find_chain(
         return Tried::ended(Ending::Unreached, 0);
     };
     if root < hints.len() {
-        return try_roots(trip, hints, budget, starts, numbers, times, xs, ys, boxes, root);
+        return try_roots(
+            trip,
+            hints,
+            budget,
+            starts,
+            numbers,
+            times,
+            xs,
+            ys,
+            boxes,
+            root,
+        );
     }
     if budget == 0 {
         return Tried::ended(Ending::Refused(11), 0);
