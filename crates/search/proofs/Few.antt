@@ -1,23 +1,21 @@
 -- An input that is accepted has few legs and obstacles, so that a search makes few sweeps (RULES 3.5, 12.19).
 -- Assumes nothing.
-use Prim.Native.Nat.{suc, _+_, _-_, _≤_}
-use mathlib.Core.Path.{_≡_, refl, ap, _∙_}
+use Prim.Native.Nat.{suc, _+_, _≤_}
+use mathlib.Core.Path.{_≡_, refl, ap}
 use mathlib.Core.Bool.{Bool, true, false, cond}
 use mathlib.Core.List.{List, [], _∷_}
-use native.Mathlib.Nat.{sub-zero}
 use native.Mathlib.Omega.{arith}
 use lib.Ieee.{Float}
 use lib.ListN.{length}
-use Rattle.lists.proofs.Listed.{length-listed}
 use Rattle.shapes.specs.Distance.{criticalDistanceSquared}
 use Rattle.shapes.specs.declared.domain.Examined.{Examined}
 use Rattle.shapes.specs.declared.domain.Examined.the-variants.{Fine, Refused}
 use Rattle.shapes.specs.declared.profile.CircularProfile.{CircularProfile}
 use Rattle.shapes.specs.declared.waypoint.Leg.{Leg}
 use Rattle.obstacles.specs.Obstacle.{Obstacle, legsOf}
-use Rattle.obstacles.specs.Lent.{Lent, boxOf, obstacleIn, obstaclesWith, obstaclesOf}
-use Rattle.obstacles.specs.Examined.{legsInAll, isShaped, agentExamined}
-use Rattle.obstacles.proofs.Shaped.{shaped-starts, shaped-legs}
+use Rattle.obstacles.specs.Lent.{Lent, obstaclesOf}
+use Rattle.obstacles.specs.Examined.{legsInAll, isFew, isShaped, agentExamined}
+use Rattle.obstacles.proofs.Shaped.{shaped-few, few-obstacles, few-legs}
 use Rattle.arrivals.specs.Search.{legsIn, moving}
 use Rattle.search.specs.Watched.{watchedLegs, watchedAll}
 
@@ -47,11 +45,6 @@ unfolding watchedAll
 watched-count p [] = refl
 watched-count p (o ∷ os) = ap suc (watched-count p os)
 
-obstacles-count : (lent : Lent) → length (obstaclesOf lent) ≡ length (lent .starts)
-unfolding obstaclesOf obstaclesWith
-obstacles-count lent =
-    let n = length (lent .starts) in length-listed (obstacleIn lent (boxOf lent)) (n - 0) 0 ∙ sub-zero n
-
 fine-shaped : (p : CircularProfile) (agent : Leg) (lent : Lent) → agentExamined p agent lent ≡ Fine → isShaped lent ≡ true
 unfolding agentExamined
 fine-shaped p agent lent e = by (isShaped lent) _ e
@@ -61,12 +54,14 @@ fine-shaped p agent lent e = by (isShaped lent) _ e
     by false rest e = cc
 
 -- At most 256 legs and 32 obstacles.
-pub fine-few : (p : CircularProfile) (agent : Leg) (lent : Lent) → agentExamined p agent lent ≡ Fine →
-    legsIn (watchedAll p (obstaclesOf lent)) + moving (watchedAll p (obstaclesOf lent)) ≤ 288
-fine-few p agent lent e =
-    let os = obstaclesOf lent in
-    let shaped = fine-shaped p agent lent e in
+pub few-watched : (p : CircularProfile) (os : List Obstacle) → isFew os ≡ true →
+    legsIn (watchedAll p os) + moving (watchedAll p os) ≤ 288
+few-watched p os e =
     let legs = legs-watched p os in
     let all = watched-count p os in
     let obstacles = moving-few (watchedAll p os) in
-    omega (arith, shaped-legs lent shaped, shaped-starts lent shaped, obstacles-count lent)
+    omega (arith, few-legs os e, few-obstacles os e)
+
+pub fine-few : (p : CircularProfile) (agent : Leg) (lent : Lent) → agentExamined p agent lent ≡ Fine →
+    legsIn (watchedAll p (obstaclesOf lent)) + moving (watchedAll p (obstaclesOf lent)) ≤ 288
+fine-few p agent lent e = few-watched p (obstaclesOf lent) (shaped-few lent (fine-shaped p agent lent e))
