@@ -1,3 +1,4 @@
 mod Filling
 pub mod Answer
 pub mod Listed
+pub mod Fours

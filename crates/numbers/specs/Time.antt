@@ -35,6 +35,11 @@ instantAfter t d =
     (I.At (record { 0 = t .0 +ℤ d .0 }))
     I.Strayed
 
+-- Two spans make a span (RULES 6.4).
+unfoldable pub spanSum : Duration → Duration → Span
+spanSum d e =
+    cond (inReach (d .0) && (inReach (e .0) && inReach (d .0 +ℤ e .0))) (S.Of (record { 0 = d .0 +ℤ e .0 })) S.Strayed
+
 -- The later and the earlier of two instants, the first where they are one (RULES 6.6).
 unfoldable pub laterOf : TimePoint → TimePoint → TimePoint
 laterOf t u = cond (ltZ (t .0) (u .0)) u t

@@ -1,6 +1,6 @@
 pub mod Reading
 mod Widening
-pub mod Counting
+mod Counting
 pub mod Legs
 pub mod Filling
 pub mod Shaped

@@ -3,6 +3,7 @@
 use Prim.Native.Nat.{_≤_}
 use mathlib.Core.Path.{_≡_, refl}
 use mathlib.Core.Bool.{Bool, true, false, _&&_, cond}
+use mathlib.Core.List.{List}
 use native.Mathlib.Omega.{arith}
 use borrow.Author.Tests.{leb-true}
 use lib.Dec.{leb}
@@ -13,31 +14,32 @@ use Rattle.shapes.specs.declared.domain.Examined.{Examined}
 use Rattle.shapes.specs.declared.domain.Examined.the-variants.{Fine, Refused}
 use Rattle.shapes.specs.declared.profile.CircularProfile.{CircularProfile}
 use Rattle.shapes.specs.declared.waypoint.Leg.{Leg}
+use Rattle.obstacles.specs.Obstacle.{Obstacle}
 use Rattle.obstacles.specs.Lent.{Lent, obstaclesOf}
 use Rattle.obstacles.specs.Examined.{isLaid, isTrajectory, legsInAll, isFew, isShaped, agentExamined}
 use Rattle.obstacles.proofs.Counting.{obstacles-count}
 
-shaped-few : (lent : Lent) → isShaped lent ≡ true → isFew (obstaclesOf lent) ≡ true
+pub shaped-few : (lent : Lent) → isShaped lent ≡ true → isFew (obstaclesOf lent) ≡ true
 unfolding isShaped
 shaped-few lent e =
     let moves = every (λ o. isTrajectory (o .waypoints)) (obstaclesOf lent) in
     both (isFew (obstaclesOf lent)) moves (both (isLaid lent) (isFew (obstaclesOf lent) && moves) e .1) .0
 
 -- At most 32 obstacles (RULES 3.5),
-pub shaped-starts : (lent : Lent) → isShaped lent ≡ true → length (lent .starts) ≤ 32
+pub few-obstacles : (os : List Obstacle) → isFew os ≡ true → length os ≤ 32
 unfolding isFew
-shaped-starts lent e =
-    let os = obstaclesOf lent in
-    let count = obstacles-count lent in
-    let few = leb-true (length os) 32 (both (leb (length os) 32) (leb (legsInAll os) 256) (shaped-few lent e) .0) in
-    omega arith
+few-obstacles os e = leb-true (length os) 32 (both (leb (length os) 32) (leb (legsInAll os) 256) e .0)
 
 -- and 256 legs.
-pub shaped-legs : (lent : Lent) → isShaped lent ≡ true → legsInAll (obstaclesOf lent) ≤ 256
+pub few-legs : (os : List Obstacle) → isFew os ≡ true → legsInAll os ≤ 256
 unfolding isFew
-shaped-legs lent e =
-    let os = obstaclesOf lent in
-    leb-true (legsInAll os) 256 (both (leb (length os) 32) (leb (legsInAll os) 256) (shaped-few lent e) .1)
+few-legs os e = leb-true (legsInAll os) 256 (both (leb (length os) 32) (leb (legsInAll os) 256) e .1)
+
+shaped-starts : (lent : Lent) → isShaped lent ≡ true → length (lent .starts) ≤ 32
+shaped-starts lent e =
+    let count = obstacles-count lent in
+    let few = few-obstacles (obstaclesOf lent) (shaped-few lent e) in
+    omega arith
 
 -- An input that is accepted has a table of the right shape (RULES 5.1),
 pub fine-shaped : (p : CircularProfile) (agent : Leg) (lent : Lent) → agentExamined p agent lent ≡ Fine → isShaped lent ≡ true

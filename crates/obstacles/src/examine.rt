@@ -59,7 +59,7 @@ fn legs_between(from: usize, to: usize) -> usize
 }
 
 // Whether there are at most 32 obstacles and 256 legs, whatever their numbers and places.
-fn is_few(starts: &[usize], times: &[i64]) -> bool
+pub fn is_few(starts: &[usize], times: &[i64]) -> bool
     ensures { λ r. ⌜ ((numbers xs ys : List Float) → r ≡ isFew (obstaclesOf (lentOf (now (starts .entry)) numbers (now (times .entry)) xs ys))) ⌝ }
 {
     if 32 < starts.len() {

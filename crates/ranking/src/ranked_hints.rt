@@ -7,8 +7,8 @@ use shapes::vector::Vector;
 use waits::hint::WaitHint;
 ghost use mathlib.Core.Path.{_≡_};
 ghost use Prim.Native.Nat.{_≤_};
-ghost use lib.ListN.{length};
-ghost use Rattle.ranking.specs.Hints.{held, refusedBy, noHints, withLast, withRanked, placeOf, isRanked};
+ghost use lib.ListN.{length, getD};
+ghost use Rattle.ranking.specs.Hints.{blank, held, refusedBy, noHints, withLast, withRanked, placeOf, isRanked};
 
 // The first `count` of `all` are hints, where `refused` is 0; else it is the number of a refusal, and there are none.
 pub struct RankedHints {
@@ -70,6 +70,17 @@ impl RankedHints {
             return 64;
         }
         n
+    }
+
+    // Hint i, and a blank one where there is none.
+    pub fn at(self, i: usize) -> RankedHint
+        ensures { λ r. ⌜ r ≡ getD (held self) i blank ⌝ }
+    {
+        if i < self.len() {
+            return self.all[i];
+        }
+        let empty = RankedHints::none();
+        empty.all[0]
     }
 
     // One hint more behind the others; a 65th is refused 10.

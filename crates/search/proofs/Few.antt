@@ -3,7 +3,7 @@
 -- Assumes nothing.
 use Prim.Native.Nat.{ℕ, suc, _+_, _≤_}
 use mathlib.Core.Path.{_≡_, refl, ap}
-use mathlib.Core.Bool.{true≢false}
+use mathlib.Core.Bool.{true, true≢false}
 use mathlib.Core.List.{List, [], _∷_}
 use native.Mathlib.Omega.{arith}
 use lib.Ieee.{Float}
@@ -17,12 +17,11 @@ use Rattle.shapes.specs.declared.waypoint.Leg.{Leg}
 use Rattle.shapes.specs.declared.waypoint.Waypoint.{Waypoint}
 use Rattle.obstacles.specs.Obstacle.{Obstacle, legsOf}
 use Rattle.obstacles.specs.Lent.{Lent, obstaclesOf}
-use Rattle.obstacles.specs.Examined.{legsInAll, agentExamined}
-use Rattle.obstacles.proofs.Counting.{obstacles-count}
-use Rattle.obstacles.proofs.Shaped.{shaped-starts, shaped-legs, fine-shaped}
-use Rattle.arrivals.specs.Search.{Answered, arrivals, legsIn, moving}
+use Rattle.obstacles.specs.Examined.{legsInAll, isFew, agentExamined}
+use Rattle.obstacles.proofs.Shaped.{shaped-few, few-obstacles, few-legs, fine-shaped}
+use Rattle.arrivals.specs.Search.{Answered, legsIn, moving}
 use Rattle.arrivals.proofs.Theorems.{at-most, fewer}
-use Rattle.search.specs.Watched.{Watched, viewAt, watchedLegs, watchedAll, arrivalsAt}
+use Rattle.search.specs.Watched.{viewAt, watchedLegs, watchedAll, arrivalsAt}
 use Rattle.search.specs.Asked.{askedArrivals}
 
 -- Every leg is watched,
@@ -52,30 +51,40 @@ watched-count p [] = refl
 watched-count p (o ∷ os) = ap suc (watched-count p os)
 
 -- At most 256 legs and 32 obstacles.
-pub fine-few : (p : CircularProfile) (agent : Leg) (lent : Lent) → agentExamined p agent lent ≡ X.Fine →
-    legsIn (watchedAll p (obstaclesOf lent)) + moving (watchedAll p (obstaclesOf lent)) ≤ 288
-fine-few p agent lent e =
-    let os = obstaclesOf lent in
-    let shaped = fine-shaped p agent lent e in
+pub few-watched : (p : CircularProfile) (os : List Obstacle) → isFew os ≡ true →
+    legsIn (watchedAll p os) + moving (watchedAll p os) ≤ 288
+few-watched p os e =
     let legs = legs-watched p os in
     let all = watched-count p os in
     let obstacles = moving-few (watchedAll p os) in
-    omega (arith, shaped-legs lent shaped, shaped-starts lent shaped, obstacles-count lent)
+    omega (arith, few-legs os e, few-obstacles os e)
+
+-- An input that is accepted has few.
+fine-is-few : (p : CircularProfile) (agent : Leg) (lent : Lent) →
+    agentExamined p agent lent ≡ X.Fine → isFew (obstaclesOf lent) ≡ true
+fine-is-few p agent lent e = shaped-few lent (fine-shaped p agent lent e)
+
+pub fine-few : (p : CircularProfile) (agent : Leg) (lent : Lent) → agentExamined p agent lent ≡ X.Fine →
+    legsIn (watchedAll p (obstaclesOf lent)) + moving (watchedAll p (obstaclesOf lent)) ≤ 288
+fine-few p agent lent e = few-watched p (obstaclesOf lent) (fine-is-few p agent lent e)
 
 -- So a search that is answered makes at most 289 sweeps, and lists no more times than that (RULES 12.14, 12.19).
+pub few-listed : (p : CircularProfile) (g : Waypoint) (os : List Obstacle) (l : List TimePoint) (n : ℕ) →
+    isFew os ≡ true → arrivalsAt p g os ≡ Answered l n → length l ≤ 289
+unfolding arrivalsAt
+few-listed p g os l n few e =
+    let times = fewer (viewAt g) (watchedAll p os) (g .time) e in
+    let sweeps = at-most (viewAt g) (watchedAll p os) (g .time) e in
+    omega (arith, few-watched p os few)
+
 pub asked-few : (p : CircularProfile) (g : Waypoint) (lent : Lent) (l : List TimePoint) (n : ℕ) →
     askedArrivals p g lent ≡ Answered l n → length l ≤ 289
-unfolding askedArrivals arrivalsAt
+unfolding askedArrivals
 asked-few p g lent l n e = by (agentExamined p agent lent) refl
   where
     agent : Leg
     agent = record { start = g; end = g }
 
     by : (x : Examined) → agentExamined p agent lent ≡ x → length l ≤ 289
-    by X.Fine fine =
-        let os : List (List Watched) = watchedAll p (obstaclesOf lent) in
-        let answer : arrivals (viewAt g) os (g .time) ≡ Answered l n = rw fine at e in
-        let times = fewer (viewAt g) os (g .time) answer in
-        let sweeps = at-most (viewAt g) os (g .time) answer in
-        omega (arith, fine-few p agent lent fine)
+    by X.Fine fine = few-listed p g (obstaclesOf lent) l n (fine-is-few p agent lent fine) (rw fine at e)
     by (X.Refused m) refused = absurd (true≢false (cc (rw refused at e)))

@@ -1,7 +1,7 @@
 -- The legs that the search watches: those of all obstacles, each with its limit, as seen from the place that is asked for
 -- (RULES 12.1, 12.2, 12.16).
 -- Assumes nothing.
-use mathlib.Core.Bool.{Bool}
+use mathlib.Core.Bool.{Bool, cond}
 use mathlib.Core.List.{List, [], _∷_}
 use lib.Ieee
 use lib.Ieee.{Float}
@@ -14,7 +14,8 @@ use Rattle.shapes.specs.declared.waypoint.Waypoint.{Waypoint}
 use Rattle.proximity.specs.Proximity.{proximityOf}
 use Rattle.proximity.specs.declared.detect.Proximity.{Proximity}
 use Rattle.obstacles.specs.Obstacle.{Obstacle, legsOf}
-use Rattle.arrivals.specs.Search.{View, Answer, arrivals}
+use Rattle.obstacles.specs.Examined.{isFew}
+use Rattle.arrivals.specs.Search.{View, Answer, Refused, arrivals}
 
 -- A leg of an obstacle, and the squared distance that it is held to.
 pub record Watched : Type 0 where
@@ -64,3 +65,7 @@ watchedAll p (o ∷ os) = watchedOf p o ∷ watchedAll p os
 -- The safe arrival times at a waypoint's place, from its time on (RULES 12.3).
 unfoldable pub arrivalsAt : CircularProfile → Waypoint → List Obstacle → Answer
 arrivalsAt p g os = arrivals (viewAt g) (watchedAll p os) (g .time)
+
+-- The same where there are no more obstacles and legs than the domain allows; else 2 (RULES 3.5).
+unfoldable pub arrivalsAmong : CircularProfile → Waypoint → List Obstacle → Answer
+arrivalsAmong p g os = cond (isFew os) (arrivalsAt p g os) (Refused 2)

@@ -2,6 +2,7 @@
 use crate::sweep;
 use arrivals::turn::Turn;
 use numbers::time::TimePoint;
+use obstacles::examine;
 use shapes::profile::CircularProfile;
 use shapes::waypoint::Waypoint;
 ghost use mathlib.Core.Path.{_≡_};
@@ -9,7 +10,7 @@ ghost use Prim.Native.Nat.{_+_, _≤_};
 ghost use lib.ListN.{set};
 ghost use Rattle.obstacles.specs.Lent.{lentOf, obstaclesOf};
 ghost use Rattle.arrivals.specs.Search.{legsIn, moving};
-ghost use Rattle.search.specs.Watched.{watchedAll, arrivalsAt};
+ghost use Rattle.search.specs.Watched.{watchedAll, arrivalsAt, arrivalsAmong};
 ghost use Rattle.search.specs.Listing.{Stored, Told, wipedTimes};
 
 // How many times are listed, and by how many sweeps; or a refusal and its number.
@@ -110,4 +111,24 @@ pub(crate) fn compute_safe_arrival_times(
             Arrivals::Listed(count, sweeps)
         }
     }
+}
+
+// The same for any table: one with more obstacles or legs than the domain allows is refused 2.
+pub fn times_among(
+    p: CircularProfile,
+    place: Waypoint,
+    starts: &[usize],
+    numbers: &[f64],
+    times: &[i64],
+    xs: &[f64],
+    ys: &[f64],
+    list: &mut [i64],
+) -> Arrivals
+    ensures { λ r. ⌜ Told (arrivalsAmong p place (obstaclesOf (lentOf (now (starts .entry)) (now (numbers .entry)) (now (times .entry)) (now (xs .entry)) (now (ys .entry))))) (now (list .entry)) (now (list .exit)) r ⌝ }
+{
+    if !examine::is_few(starts, times) {
+        wipe_times(list, 0);
+        return Arrivals::Refused(2);
+    }
+    compute_safe_arrival_times(p, place, starts, numbers, times, xs, ys, list)
 }

@@ -1,0 +1,5 @@
+pub mod Answer
+pub mod Stack
+pub mod Recursive
+pub mod Safe
+pub mod Handed

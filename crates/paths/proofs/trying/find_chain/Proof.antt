@@ -1,0 +1,82 @@
+-- `paths::trying::find_chain` meets its contract: by the first root, which is missing, a hint's, or past the hints.
+-- Assumes nothing.
+use Prim.Native.Nat.{_≤_, _<_}
+use native.Mathlib.Omega.{arith}
+use borrow.Author.Needs.{needs}
+use borrow.Author.Tests.{le-leb, lt-leb, lt-ltb, le-ltb}
+use lib.ListN.{length}
+use Rattle.ranking.specs.Hints.{held}
+use Rattle.chains.specs.Recursive.{recursiveSearch}
+use Rattle.paths.specs.Trying.{chainFrom}
+use Rattle.paths.proofs.trying.find_chain.Statement.{statement}
+use Rattle.paths.proofs.trying.find_chain.Tie as tie
+
+enum-known-first : tie.Need-enum-known-first
+enum-known-first c = search needs
+
+enum-told : tie.Need-enum-told
+enum-told c = search needs
+
+ended-requires : tie.Need-ended-requires
+ended-requires c κs = search needs
+
+returns : tie.Need-returns
+unfolding chainFrom recursiveSearch
+returns c = rw (c .before .enum-told .given .1) (c .ended .ensures)
+
+len-requires : tie.Need-len-requires
+len-requires c κs = search needs
+
+try-roots-requires : tie.Need-try-roots-requires
+try-roots-requires c κs = search needs
+
+returns-2 : tie.Need-returns-2
+unfolding chainFrom recursiveSearch
+returns-2 c =
+    let n = c .before .before in
+    let f = n .before .before .first in
+    let a = n .before .before .before .before .before .before .before .before .before .args in
+    let there : f .given .0 .0 < length (held (a .hints)) = omega (arith, n .len .ensures) in
+    rw (f .given .1, lt-ltb _ _ there) (c .try-roots .ensures)
+
+ended-requires-2 : tie.Need-ended-requires-2
+ended-requires-2 c κs = search needs
+
+returns-3 : tie.Need-returns-3
+unfolding chainFrom recursiveSearch
+returns-3 c =
+    let n = c .before .before .before in
+    let f = n .before .before .first in
+    let a = n .before .before .before .before .before .before .before .before .before .args in
+    let past : length (held (a .hints)) ≤ f .given .0 .0 = omega (arith, n .len .ensures) in
+    let spent : a .budget ≤ 0 = omega arith in
+    rw (f .given .1, le-ltb _ _ past, le-leb (a .budget) 0 spent) (c .ended2 .ensures)
+
+ended-requires-3 : tie.Need-ended-requires-3
+ended-requires-3 c κs = search needs
+
+returns-4 : tie.Need-returns-4
+unfolding chainFrom recursiveSearch
+returns-4 c =
+    let n = c .before .before .before in
+    let f = n .before .before .first in
+    let a = n .before .before .before .before .before .before .before .before .before .args in
+    let past : length (held (a .hints)) ≤ f .given .0 .0 = omega (arith, n .len .ensures) in
+    let some-left : 0 < a .budget = omega arith in
+    rw (f .given .1, le-ltb _ _ past, lt-leb (a .budget) 0 some-left) (c .ended3 .ensures)
+
+pub find-chain-spec : {M : Type 1} → statement M
+find-chain-spec =
+    tie.close
+    (tie.spec
+    enum-known-first
+    enum-told
+    ended-requires
+    returns
+    len-requires
+    try-roots-requires
+    returns-2
+    ended-requires-2
+    returns-3
+    ended-requires-3
+    returns-4)

@@ -1,0 +1,75 @@
+-- `paths::trying::try_start` meets its contract: by the test of the own start, a chain of the hint alone, no way, or a refusal.
+-- Assumes nothing.
+use mathlib.Core.Path.{sym, ap, _∙_}
+use mathlib.Core.List.{[]}
+use borrow.Author.Needs.{needs}
+use Rattle.chains.specs.declared.tried.Tried.{Tried}
+use Rattle.chains.specs.Handed.{onto}
+use Rattle.chains.proofs.Links.{one-link}
+use Rattle.paths.specs.Trying.{startsAt}
+use Rattle.paths.proofs.trying.try_start.Statement.{statement}
+use Rattle.paths.proofs.trying.try_start.Tie as tie
+
+stop-at-requires : tie.Need-stop-at-requires
+stop-at-requires c κs = search needs
+
+from-start-requires : tie.Need-from-start-requires
+from-start-requires c κs = search needs
+
+enum-told : tie.Need-enum-told
+enum-told c = search needs
+
+ended-requires : tie.Need-ended-requires
+ended-requires c κs = search needs
+
+with-link-requires : tie.Need-with-link-requires
+with-link-requires c κs = search needs
+
+enum-told-2 : tie.Need-enum-told-2
+enum-told-2 c = search needs
+
+ended-requires-2 : tie.Need-ended-requires-2
+ended-requires-2 c κs = search needs
+
+enum-known-trial : tie.Need-enum-known-trial
+enum-known-trial c = search needs
+
+ended-requires-3 : tie.Need-ended-requires-3
+ended-requires-3 c κs = search needs
+
+returns : tie.Need-returns
+unfolding startsAt
+returns c =
+    let s = c .before .before .before .before in
+    let a = s .before .before .before .before .before .before .before .args in
+    rw (← s .before .stop-at .ensures, ← s .from-start .ensures, c .before .before .enum-told .given .1)
+    (c .with-link .ensures ∙ ap (λ (t : Tried). onto t (a .i)) (c .before .ended .ensures) ∙ sym (one-link [] (a .i) (a .pops)))
+
+returns-2 : tie.Need-returns-2
+unfolding startsAt
+returns-2 c =
+    let s = c .before .before .before in
+    rw (← s .before .stop-at .ensures, ← s .from-start .ensures, c .before .enum-told2 .given .1) (c .ended2 .ensures)
+
+returns-3 : tie.Need-returns-3
+unfolding startsAt
+returns-3 c =
+    let s = c .before .before .before .before in
+    rw (← s .before .stop-at .ensures, ← s .from-start .ensures, c .before .before .trial .given .1) (c .ended3 .ensures)
+
+pub try-start-spec : {M : Type 1} → statement M
+try-start-spec =
+    tie.close
+    (tie.spec
+    stop-at-requires
+    from-start-requires
+    enum-told
+    ended-requires
+    with-link-requires
+    enum-told-2
+    ended-requires-2
+    enum-known-trial
+    ended-requires-3
+    returns
+    returns-2
+    returns-3)

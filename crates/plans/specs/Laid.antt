@@ -1,0 +1,101 @@
+-- What the search leaves in the rooms that it is lent (RULES 4.12, 4.14, 4.15).
+-- Assumes nothing.
+use Prim.Native.Nat.{ℕ, _+_, _-_, _*_}
+use mathlib.Core.Path.{_≡_}
+use mathlib.Core.Bool.{Bool, _&&_, cond}
+use mathlib.Core.List.{List, _++_}
+use lib.ListN.{length, replicate}
+use Rattle.lists.specs.Outcome.{wiped}
+use Rattle.lists.specs.Rows.{withRows, wordsIn, hasRoom}
+use Rattle.numbers.specs.declared.time.Duration.{Duration}
+use Rattle.plans.specs.Action.{actionRows}
+use Rattle.plans.specs.Path as P
+use Rattle.plans.specs.Plan as Q
+use Rattle.plans.specs.declared.action.SafeAction.{SafeAction}
+use Rattle.plans.specs.declared.arrival_path.Found.{Found}
+use Rattle.plans.specs.declared.arrival_path.Found.the-variants as F
+use Rattle.plans.specs.declared.building.Hold.{Hold}
+use Rattle.plans.specs.declared.building.Hold.the-variants as H
+use Rattle.plans.specs.declared.linear_paths.Paths.{Paths}
+use Rattle.plans.specs.declared.linear_paths.Paths.the-variants as R
+
+-- ---- Parts of the work: the rows of an answer, as far as there is room. A refusal's rows are wiped by the call.
+
+unfoldable pub holdOf : P.Built → Hold
+holdOf (P.Of actions hold) = H.Of hold
+holdOf (P.Refused n) = H.Refused n
+
+pub record Put (answer : P.Built) (lent left : List ℕ) (row : ℕ) (r : Hold) : Type 0 where
+  pub hold : r ≡ holdOf answer
+  pub long : length left ≡ length lent
+  pub rows : (actions : List SafeAction) (d : Duration) → answer ≡ P.Of actions d → left ≡ withRows lent row (actionRows actions)
+
+unfoldable pub foundOf : P.Sought → Found
+foundOf (P.Path actions pops hold) = F.Path (length actions) pops hold
+foundOf (P.Missing pops) = F.Missing pops
+foundOf (P.Refused n) = F.Refused n
+
+pub record PutPath (answer : P.Sought) (lent left : List ℕ) (row : ℕ) (r : Found) : Type 0 where
+  pub found : r ≡ foundOf answer
+  pub long : length left ≡ length lent
+  pub rows : (actions : List SafeAction) (pops : ℕ) (d : Duration) → answer ≡ P.Path actions pops d →
+      left ≡ withRows lent row (actionRows actions)
+  pub none : (pops : ℕ) → answer ≡ P.Missing pops → left ≡ lent
+
+-- The paths' rows stand behind the first, which counts.
+unfoldable pub countsOf : Q.Paths → Paths
+countsOf (Q.Of ps) = R.Of (length ps) (length (Q.allActions ps))
+countsOf (Q.Refused n) = R.Refused n
+
+pub record PutPaths (answer : Q.Paths) (lent left lentActions leftActions : List ℕ) (r : Paths) : Type 0 where
+  pub counts : r ≡ countsOf answer
+  pub long : length left ≡ length lent
+  pub long-actions : length leftActions ≡ length lentActions
+  pub rows : (ps : List Q.Path) → answer ≡ Q.Of ps → left ≡ withRows lent 1 (Q.pathRows ps)
+  pub action-rows : (ps : List Q.Path) → answer ≡ Q.Of ps → leftActions ≡ withRows lentActions 0 (actionRows (Q.allActions ps))
+
+-- ---- A whole plan, in two rooms: one for the counts and the paths, one for the actions of all paths.
+
+-- Both rooms are long enough.
+abbrev pub fits : ℕ → ℕ → ℕ → ℕ → Bool
+fits room actionRoom heads actions = hasRoom room heads && hasRoom actionRoom actions
+
+-- What handing over so many rows of each leaves, whatever stands in them.
+pub record SettledBoth (heads actions : ℕ) (lent left lentActions leftActions : List ℕ) (r : ℕ) : Type 0 where
+  pub number : r ≡ cond (fits (length lent) (length lentActions) heads actions) 0 12
+  pub room : left ≡
+      cond (fits (length lent) (length lentActions) heads actions) (wiped lent (4 * heads)) (replicate (length lent) 0)
+  pub action-room : leftActions ≡
+      cond (fits (length lent) (length lentActions) heads actions)
+      (wiped lentActions (4 * actions))
+      (replicate (length lentActions) 0)
+
+-- 0 for a plan, 12 where either room is too small, else the refusal's own (RULES 4.12).
+unfoldable pub planNumber : Q.Plan → ℕ → ℕ → ℕ
+planNumber (Q.Planned hints times sweeps ps) room actionRoom =
+    cond (fits room actionRoom (1 + length ps) (length (Q.allActions ps))) 0 12
+planNumber (Q.Refused n) room actionRoom = n
+
+-- Rows and zero behind them, in a room of so many words.
+abbrev pub filled : List (List ℕ) → ℕ → List ℕ
+filled rows room = wordsIn rows ++ replicate (room - 4 * length rows) 0
+
+-- The room for the counts and the paths, and that for the actions (RULES 4.14, 4.15).
+unfoldable pub planRoom : Q.Plan → ℕ → ℕ → List ℕ
+planRoom (Q.Planned hints times sweeps ps) room actionRoom =
+    cond (fits room actionRoom (1 + length ps) (length (Q.allActions ps)))
+    (filled (Q.headRows hints times sweeps ps) room)
+    (replicate room 0)
+planRoom (Q.Refused n) room actionRoom = replicate room 0
+
+unfoldable pub actionRoomOf : Q.Plan → ℕ → ℕ → List ℕ
+actionRoomOf (Q.Planned hints times sweeps ps) room actionRoom =
+    cond (fits room actionRoom (1 + length ps) (length (Q.allActions ps)))
+    (filled (actionRows (Q.allActions ps)) actionRoom)
+    (replicate actionRoom 0)
+actionRoomOf (Q.Refused n) room actionRoom = replicate actionRoom 0
+
+pub record PlanHanded (plan : Q.Plan) (lent left lentActions leftActions : List ℕ) (r : ℕ) : Type 0 where
+  pub number : r ≡ planNumber plan (length lent) (length lentActions)
+  pub room : left ≡ planRoom plan (length lent) (length lentActions)
+  pub actions : leftActions ≡ actionRoomOf plan (length lent) (length lentActions)

@@ -1,0 +1,5 @@
+pub mod Action
+pub mod Path
+pub mod Plan
+pub mod Laid
+pub mod Asked

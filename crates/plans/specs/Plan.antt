@@ -1,0 +1,137 @@
+-- The whole plan: hints, arrival times, and a path or none for each of them (RULES 13.1, 13.4, 5.5 to 5.7).
+-- Assumes nothing.
+use Prim.Native.Nat.{ℕ}
+use mathlib.Core.Bool.{cond}
+use mathlib.Core.List.{List, [], _∷_, _++_, map}
+use lib.Dec.{eqb}
+use lib.IntN.{ℤ}
+use lib.ListN.{length}
+use Rattle.numbers.specs.Word.{wordOf}
+use Rattle.numbers.specs.declared.time.Duration.{Duration}
+use Rattle.numbers.specs.declared.time.TimePoint.{TimePoint}
+use Rattle.shapes.specs.Box.{boxOfLeg}
+use Rattle.shapes.specs.Leg.{isBrief}
+use Rattle.shapes.specs.declared.profile.CircularProfile.{CircularProfile}
+use Rattle.shapes.specs.declared.waypoint.Leg.{Leg}
+use Rattle.obstacles.specs.Obstacle.{Obstacle}
+use Rattle.ranking.specs.Hints.{held}
+use Rattle.ranking.specs.declared.order.RankedHint.{RankedHint}
+use Rattle.ranking.specs.declared.ranked_hints.RankedHints.{RankedHints}
+use Rattle.hints.specs.Contour.{scaleOf, rankedHints}
+use Rattle.hints.specs.declared.contour.Scale.{Scale}
+use Rattle.hints.specs.declared.contour.Scaling.{Scaling}
+use Rattle.hints.specs.declared.contour.Scaling.the-variants as L
+use Rattle.arrivals.specs.Search as A
+use Rattle.search.specs.Watched.{arrivalsAt}
+use Rattle.ways.specs.declared.trip.Trip.{Trip}
+use Rattle.plans.specs.Action.{actionRows}
+use Rattle.plans.specs.Path as P
+use Rattle.plans.specs.declared.action.SafeAction.{SafeAction}
+use Rattle.plans.specs.declared.action.SafeAction.the-variants.{Move}
+
+-- A path, the arrival time that it is for, its pops and its hold.
+pub record Path : Type 0 where
+  pub arrival : TimePoint
+  pub pops : ℕ
+  pub hold : Duration
+  pub actions : List SafeAction
+
+pub data Paths : Type 0 where
+  Of : List Path → Paths
+  Refused : ℕ → Paths
+
+abbrev pub first : Path → Paths → Paths
+first p (Of ps) = Of (p ∷ ps)
+first p (Refused n) = Refused n
+
+-- An arrival time with no path adds none; a refusal ends the work (RULES 13.1, 13.22, 15.11).
+abbrev pub sought : P.Sought → TimePoint → (Unit {0} → Paths) → Paths
+sought (P.Path actions pops hold) t go = first (record { arrival = t; pops = pops; hold = hold; actions = actions }) (go tt)
+sought (P.Missing pops) t go = go tt
+sought (P.Refused n) t go = Refused n
+
+-- For each arrival time in order (RULES 13.1).
+unfoldable pub pathsFor : Trip → List Obstacle → List RankedHint → ℕ → List TimePoint → Paths
+pathsFor trip os hints budget [] = Of []
+pathsFor trip os hints budget (t ∷ ts) =
+    sought (P.pathFor trip os hints budget t) t (λ _. pathsFor trip os hints budget ts)
+
+-- How many hints, arrival times and sweeps there are, and the paths; or a refusal.
+pub data Plan : Type 0 where
+  Planned : ℕ → ℕ → ℕ → List Path → Plan
+  Refused : ℕ → Plan
+
+-- ---- Going on with a part that may be refused.
+
+abbrev pub scaled : Scaling → (Scale → Plan) → Plan
+scaled (L.By scale) go = go scale
+scaled (L.Refused n) go = Refused n
+
+abbrev pub hinted : RankedHints → (List RankedHint → Plan) → Plan
+hinted list go = cond (eqb (list .refused) 0) (go (held list)) (Refused (list .refused))
+
+-- `Unfinished` is never the answer, and 0 is no refusal's number.
+abbrev pub timed : A.Answer → (List TimePoint → ℕ → Plan) → Plan
+timed (A.Answered times sweeps) go = go times sweeps
+timed (A.Refused n) go = Refused n
+timed A.Unfinished go = Refused 0
+
+abbrev pub planned : ℕ → ℕ → ℕ → Paths → Plan
+planned hints times sweeps (Of ps) = Planned hints times sweeps ps
+planned hints times sweeps (Refused n) = Refused n
+
+-- ---- The plan.
+
+-- The instants of nanoseconds.
+unfoldable pub instantsOf : List ℤ → List TimePoint
+instantsOf times = map (λ t. record { 0 = t }) times
+
+abbrev pub tripOf : CircularProfile → Leg → Scale → Trip
+tripOf p agent scale = record { profile = p; leg = agent; speed = scale .speed }
+
+-- For the hints and arrival times that there are.
+unfoldable pub pathsPlanned : Trip → List Obstacle → List RankedHint → ℕ → List TimePoint → ℕ → Plan
+pathsPlanned trip os hints budget times sweeps =
+    planned (length hints) (length times) sweeps (pathsFor trip os hints budget times)
+
+-- The arrival times at the goal, then the paths. They see the obstacles `os`, the arrival times `others`: in a plan these are the same.
+unfoldable pub timesPlanned : Trip → List Obstacle → List Obstacle → List RankedHint → ℕ → Plan
+timesPlanned trip os others hints budget =
+    timed (arrivalsAt (trip .profile) (trip .leg .end) others) (λ times sweeps.
+    pathsPlanned trip os hints budget times sweeps)
+
+-- The hints, then the arrival times and the paths (RULES 5.7).
+unfoldable pub hintsPlanned : Trip → List Obstacle → List Obstacle → ℕ → Plan
+hintsPlanned trip os others budget =
+    hinted (rankedHints (trip .profile) (trip .leg) (boxOfLeg (trip .profile .footprint) (trip .leg)) os) (λ hints.
+    timesPlanned trip os others hints budget)
+
+-- 4 for the agent's line comes before all of them (RULES 5.6).
+unfoldable pub longPlan : CircularProfile → Leg → ℕ → List Obstacle → Plan
+longPlan p agent budget os = scaled (scaleOf agent) (λ scale. hintsPlanned (tripOf p agent scale) os os budget)
+
+-- A plan of less than 10 ns is one Move (RULES 13.4, 15.9).
+unfoldable pub shortPlan : Leg → Plan
+shortPlan agent =
+    Planned 0 0 0
+    (record { arrival = agent .end .time; pops = 0; hold = P.unheld; actions = Move (agent .end) ∷ [] } ∷ [])
+
+unfoldable pub planOf : CircularProfile → Leg → ℕ → List Obstacle → Plan
+planOf p agent budget os = cond (isBrief agent) (shortPlan agent) (longPlan p agent budget os)
+
+-- ---- Its words, in rows of four (RULES 15.1, 15.2).
+
+abbrev pub pathWords : Path → List ℕ
+pathWords p = wordOf (p .arrival .0) ∷ (p .pops ∷ (wordOf (p .hold .0) ∷ (length (p .actions) ∷ [])))
+
+abbrev pub pathRows : List Path → List (List ℕ)
+pathRows ps = map pathWords ps
+
+-- The actions of all paths, one path behind another.
+unfoldable pub allActions : List Path → List SafeAction
+allActions [] = []
+allActions (p ∷ ps) = p .actions ++ allActions ps
+
+-- The first row counts hints, arrival times, sweeps and paths; then a row for each path.
+abbrev pub headRows : ℕ → ℕ → ℕ → List Path → List (List ℕ)
+headRows hints times sweeps ps = (hints ∷ (times ∷ (sweeps ∷ (length ps ∷ [])))) ∷ pathRows ps

@@ -1,0 +1,126 @@
+// One path for one arrival time: `compute_safe_arrival_path` of the Rust (docs/RULES.md, 13.5 to 13.26).
+use crate::action;
+use crate::action::SafeAction;
+use crate::building;
+use crate::building::Hold;
+use chains::trial::Trial;
+use chains::tried::Chain;
+use chains::tried::Ending;
+use chains::tried::Tried;
+use numbers::time::Duration;
+use numbers::time::TimePoint;
+use paths::trying;
+use ranking::ranked_hints::RankedHints;
+use ways::roots;
+use ways::roots::Contour;
+use ways::tests;
+use ways::trip::Trip;
+ghost use Prim.Native.Nat.{_≤_};
+ghost use Rattle.obstacles.specs.Lent.{lentOf, obstaclesWith};
+ghost use Rattle.obstacles.specs.Boxes.{boxIn};
+ghost use Rattle.ranking.specs.Hints.{held};
+ghost use Rattle.chains.specs.Handed.{linksIn};
+ghost use Rattle.plans.specs.Path.{alongHints, taken, byHints, pathFor};
+ghost use Rattle.plans.specs.Laid.{PutPath};
+
+// How many actions a path has, with its pops and its hold; no path, with the pops; or a refusal and its number.
+pub enum Found {
+    Path(usize, u64, Duration),
+    Missing(u64),
+    Refused(u64),
+}
+
+// The path along a chain.
+fn along(trip: Trip, hints: RankedHints, chain: Chain, pops: u64, out: &mut [u64], row: usize) -> Found
+    requires { ⌜ row ≤ 100_000 ⌝ }
+    ensures { λ r. ⌜ PutPath (alongHints trip (held hints) (linksIn chain) pops) (now (out .entry)) (now (out .exit)) row r ⌝ }
+{
+    let n = chain.len();
+    let hold = building::build(trip, hints, chain, out, row);
+    match hold {
+        Hold::Refused(number) => Found::Refused(number),
+        Hold::Of(d) => Found::Path(2 * n + 1, pops, d),
+    }
+}
+
+// The path that a search came to.
+fn take(trip: Trip, hints: RankedHints, tried: Tried, out: &mut [u64], row: usize) -> Found
+    requires { ⌜ row ≤ 100_000 ⌝ }
+    ensures { λ r. ⌜ PutPath (taken trip (held hints) tried) (now (out .entry)) (now (out .exit)) row r ⌝ }
+{
+    let ending = tried.ending;
+    let chain = tried.chain;
+    match ending {
+        Ending::Found => along(trip, hints, chain, tried.pops, out, row),
+        Ending::Blocked => Found::Missing(tried.pops),
+        Ending::Unreached => Found::Missing(tried.pops),
+        Ending::Refused(n) => Found::Refused(n),
+    }
+}
+
+// The path by way of hints.
+fn by_hints(
+    trip: Trip,
+    arrival: TimePoint,
+    hints: RankedHints,
+    budget: u64,
+    starts: &[usize],
+    numbers: &[f64],
+    times: &[i64],
+    xs: &[f64],
+    ys: &[f64],
+    boxes: &[f64],
+    out: &mut [u64],
+    row: usize,
+) -> Found
+    requires { ⌜ row ≤ 100_000 ⌝ }
+    ensures { λ r. ⌜ PutPath (byHints trip (obstaclesWith (lentOf (now (starts .entry)) (now (numbers .entry)) (now (times .entry)) (now (xs .entry)) (now (ys .entry))) (boxIn (now (boxes .entry)))) (held hints) budget arrival) (now (out .entry)) (now (out .exit)) row r ⌝ }
+{
+    if hints.len() == 0 {
+        return Found::Missing(0);
+    }
+    let contour = roots::goal_contour(trip, arrival);
+    match contour {
+        Contour::Refused(n) => Found::Refused(n),
+        Contour::Of(goal) => {
+            let first = roots::first_root(hints, goal);
+            let tried = trying::find_chain(
+                trip, hints, budget, first, starts, numbers, times, xs, ys, boxes,
+            );
+            take(trip, hints, tried, out, row)
+        }
+    }
+}
+
+// The actions of the path stand from `row` on, as far as there is room.
+pub(crate) fn compute_safe_arrival_path(
+    trip: Trip,
+    arrival: TimePoint,
+    hints: RankedHints,
+    budget: u64,
+    starts: &[usize],
+    numbers: &[f64],
+    times: &[i64],
+    xs: &[f64],
+    ys: &[f64],
+    boxes: &[f64],
+    out: &mut [u64],
+    row: usize,
+) -> Found
+    requires { ⌜ row ≤ 100_000 ⌝ }
+    ensures { λ r. ⌜ PutPath (pathFor trip (obstaclesWith (lentOf (now (starts .entry)) (now (numbers .entry)) (now (times .entry)) (now (xs .entry)) (now (ys .entry))) (boxIn (now (boxes .entry)))) (held hints) budget arrival) (now (out .entry)) (now (out .exit)) row r ⌝ }
+{
+    let direct = tests::can_arrive_safely(trip, arrival, starts, numbers, times, xs, ys, boxes);
+    match direct {
+        Trial::Refused(n) => Found::Refused(n),
+        Trial::Passed => {
+            let leg = trip.leg;
+            let goal = leg.end;
+            action::put_action(out, row, SafeAction::Move(goal));
+            Found::Path(1, 0, Duration(0))
+        }
+        Trial::Failed => by_hints(
+            trip, arrival, hints, budget, starts, numbers, times, xs, ys, boxes, out, row,
+        ),
+    }
+}

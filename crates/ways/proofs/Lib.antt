@@ -1,0 +1,3 @@
+mod Else
+mod Counts
+pub mod Chosen

@@ -1,0 +1,13 @@
+-- `ways::travel::waypoint_of` meets its contract: the place and the time are the hint's.
+-- Assumes nothing.
+use mathlib.Core.Path.{refl}
+use Rattle.ways.specs.Travel.{waypointOf}
+use Rattle.ways.proofs.travel.waypoint_of.Statement.{statement}
+use Rattle.ways.proofs.travel.waypoint_of.Tie as tie
+
+returns : tie.Need-returns
+unfolding waypointOf
+returns c = refl
+
+pub waypoint-of-spec : {M : Type 1} → statement M
+waypoint-of-spec = tie.close (tie.spec returns)

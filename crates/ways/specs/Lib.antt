@@ -1,0 +1,4 @@
+pub mod Travel
+pub mod Way
+pub mod Tests
+pub mod Roots

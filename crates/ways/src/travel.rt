@@ -1,0 +1,47 @@
+// When the agent is at a place: `make_parent_arrival` of the Rust (docs/RULES.md, 13.3).
+use lines::norm;
+use numbers::time::Instant;
+use root::nearest::Root;
+use shapes::vector::Vector;
+use shapes::waypoint::Waypoint;
+use waits::hint::WaitHint;
+ghost use mathlib.Core.Path.{_≡_};
+ghost use Rattle.ways.specs.Travel.{waypointOf, reachedFrom};
+
+// A waypoint, or a refusal and its number.
+pub enum Reached {
+    At(Waypoint),
+    Refused(u64),
+}
+
+// The waypoint of a hint: its place, at the end of the wait.
+pub fn waypoint_of(hint: WaitHint) -> Waypoint
+    ensures { λ r. ⌜ r ≡ waypointOf hint ⌝ }
+{
+    let place = hint.place;
+    let time = hint.until;
+    Waypoint {
+        time,
+        x: place.x,
+        y: place.y,
+    }
+}
+
+// The waypoint at a place that the agent reaches from another at this speed.
+pub fn arrival_at(speed: f64, from: Waypoint, place: Vector) -> Reached
+    ensures { λ r. ⌜ r ≡ reachedFrom speed from place ⌝ }
+{
+    let long = norm::norm(place.minus(from.place()));
+    let Root::Of(length) = long else {
+        return Reached::Refused(1);
+    };
+    let arrival = from.time.plus_secs_f64(length / speed);
+    let Instant::At(time) = arrival else {
+        return Reached::Refused(7);
+    };
+    Reached::At(Waypoint {
+        time,
+        x: place.x,
+        y: place.y,
+    })
+}
