@@ -127,6 +127,31 @@ uint64_t igelbert_arrival_times(double footprint, double follow, int64_t t, doub
     const int64_t *times, size_t times_len, const double *xs, size_t xs_len, const double *ys,
     size_t ys_len, uint64_t *out, size_t out_len);
 
+/* One path of the agent's to the end of its leg for an arrival time, by way of hints that are lent as
+ * igelbert_wait_hints hands them out, with at most `budget` pops. The answer stands in rows of four
+ * words: whether there is a path (1 or 0), its pops, its hold (a span) and how many actions it has;
+ * then a row for each action: 1, an instant, x and y (doubles) for a move; 2, the obstacle's number,
+ * the end of the wait and 0 for a wait (docs/RULES.md, section 13). A room of 520 words is enough.
+ * Refused 1 and 2 for the hints too; 4: the leg lasts under 10 ns or is shorter than 1e-8; 5 and 6 as
+ * the first way's that meets them; 7: a time went too far; 11: the budget is spent. */
+uint64_t igelbert_arrival_path(double footprint, double follow, int64_t t0, double x0, double y0,
+    int64_t t1, double x1, double y1, int64_t arrival, uint64_t budget, const size_t *starts,
+    size_t starts_len, const double *numbers, size_t numbers_len, const int64_t *times,
+    size_t times_len, const double *xs, size_t xs_len, const double *ys, size_t ys_len,
+    const uint64_t *hints, size_t hints_len, uint64_t *out, size_t out_len);
+
+/* The whole plan for the agent's leg: its hints, the arrival times at its end, and a path for each of
+ * them that has one. In `paths` stand rows of four words: how many hints, arrival times, sweeps and
+ * paths there are; then for each path its arrival time, its pops, its hold and how many actions it
+ * has. In `actions` stand the actions of all paths, a row each as above, one path behind another. Both
+ * are all zero on a refusal; 12 where either is too small. 1,160 words are enough for `paths`, four
+ * for each action for `actions`. */
+uint64_t igelbert_linear_paths(double footprint, double follow, int64_t t0, double x0, double y0,
+    int64_t t1, double x1, double y1, uint64_t budget, const size_t *starts, size_t starts_len,
+    const double *numbers, size_t numbers_len, const int64_t *times, size_t times_len,
+    const double *xs, size_t xs_len, const double *ys, size_t ys_len, uint64_t *paths,
+    size_t paths_len, uint64_t *actions, size_t actions_len);
+
 #ifdef __cplusplus
 }
 #endif

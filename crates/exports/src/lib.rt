@@ -2,6 +2,7 @@
 pub mod arrival_calls;
 pub mod hint_calls;
 pub mod line_calls;
+pub mod path_calls;
 pub mod proximity_calls;
 pub mod roots;
 pub mod segment_calls;
