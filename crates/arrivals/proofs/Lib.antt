@@ -1,5 +1,6 @@
 mod Instants
 pub mod Lists
+mod Else
 mod Legs
 mod Walks
 mod Remaining

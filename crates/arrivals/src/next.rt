@@ -11,21 +11,20 @@ pub enum Next {
     Refused(u64),
 }
 
-// The exit of a leg, where it is after the candidate.
+// The exit of a leg, where it is after the candidate; where there is none, the walk goes to the next leg.
 pub fn next_of(near: Proximity, candidate: TimePoint) -> Next
     ensures { λ r. ⌜ r ≡ follows candidate near ⌝ }
 {
-    match near {
-        Proximity::Refused(n) => Next::Refused(n),
-        Proximity::Never => Next::Missing,
-        Proximity::Enters(_) => Next::Missing,
-        Proximity::Passes(_, exit) => {
-            if candidate.is_before(exit) {
-                return Next::At(exit);
-            }
-            Next::Missing
-        }
+    if let Proximity::Refused(n) = near {
+        return Next::Refused(n);
     }
+    let Proximity::Passes(_, exit) = near else {
+        return Next::Missing;
+    };
+    if candidate.is_before(exit) {
+        return Next::At(exit);
+    }
+    Next::Missing
 }
 
 // The smaller of what an obstacle gives and the best so far.

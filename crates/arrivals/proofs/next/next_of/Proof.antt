@@ -3,55 +3,42 @@
 use mathlib.Core.Path.{sym, _∙_}
 use borrow.Author.Needs.{needs}
 use Rattle.arrivals.specs.Legs.{follows}
+use Rattle.arrivals.proofs.Else.{no-exit-follows}
 use Rattle.arrivals.proofs.next.next_of.Statement.{statement}
 use Rattle.arrivals.proofs.next.next_of.Tie as tie
 
 enum-known-near : tie.Need-enum-known-near
 enum-known-near c = search needs
 
-enum-told : tie.Need-enum-told
-enum-told c = search needs
-
-enum-told-2 : tie.Need-enum-told-2
-enum-told-2 c = search needs
+returns : tie.Need-returns
+unfolding follows
+returns c = rw (c .before .near .given .1)
 
 enum-known-near-2 : tie.Need-enum-known-near-2
 enum-known-near-2 c = search needs
 
+returns-2 : tie.Need-returns-2
+returns-2 c = sym (no-exit-follows _ _ (c .before .match .keys2) (c .match2 .keys2))
+
 is-before-requires : tie.Need-is-before-requires
 is-before-requires c κs = search needs
 
-returns : tie.Need-returns
-unfolding follows
-returns c = rw (c .before .before .before .near2 .given .1, sym (c .before .is-before .ensures) ∙ c .if1 .taken)
-
-returns-2 : tie.Need-returns-2
-unfolding follows
-returns-2 c = rw (c .before .near .given .1)
-
 returns-3 : tie.Need-returns-3
 unfolding follows
-returns-3 c = rw (c .enum-told .given .1)
+returns-3 c = rw (c .before .before .before .near2 .given .1, sym (c .before .is-before .ensures) ∙ c .if1 .taken)
 
 returns-4 : tie.Need-returns-4
 unfolding follows
-returns-4 c = rw (c .enum-told2 .given .1)
-
-returns-5 : tie.Need-returns-5
-unfolding follows
-returns-5 c = rw (c .before .before .before .near2 .given .1, sym (c .before .is-before .ensures) ∙ c .if1 .left)
+returns-4 c = rw (c .before .before .before .near2 .given .1, sym (c .before .is-before .ensures) ∙ c .if1 .left)
 
 pub next-of-spec : {M : Type 1} → statement M
 next-of-spec =
     tie.close
     (tie.spec
     enum-known-near
-    enum-told
-    enum-told-2
-    enum-known-near-2
-    is-before-requires
     returns
+    enum-known-near-2
     returns-2
+    is-before-requires
     returns-3
-    returns-4
-    returns-5)
+    returns-4)

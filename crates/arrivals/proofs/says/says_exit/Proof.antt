@@ -3,20 +3,22 @@
 use mathlib.Core.Path.{_≡_, sym, _∙_}
 use borrow.Author.Needs.{needs}
 use Rattle.arrivals.specs.Legs.{leftAt, relieved}
+use Rattle.arrivals.proofs.Else.{no-exit-relieves}
 use Rattle.arrivals.proofs.says.says_exit.Statement.{statement}
 use Rattle.arrivals.proofs.says.says_exit.Tie as tie
 
 enum-known-near : tie.Need-enum-known-near
 enum-known-near c = search needs
 
-enum-told : tie.Need-enum-told
-enum-told c = search needs
-
-enum-told-2 : tie.Need-enum-told-2
-enum-told-2 c = search needs
+returns : tie.Need-returns
+unfolding relieved
+returns c = rw (c .before .near .given .1)
 
 enum-known-near-2 : tie.Need-enum-known-near-2
 enum-known-near-2 c = search needs
+
+returns-2 : tie.Need-returns-2
+returns-2 c = sym (no-exit-relieves _ _ (c .before .match .keys2) (c .match2 .keys2))
 
 plus-requires : tie.Need-plus-requires
 plus-requires c κs = search needs
@@ -24,45 +26,33 @@ plus-requires c κs = search needs
 enum-known-latest : tie.Need-enum-known-latest
 enum-known-latest c = search needs
 
-enum-told-3 : tie.Need-enum-told-3
-enum-told-3 c = search needs
+enum-told : tie.Need-enum-told
+enum-told c = search needs
 
 -- With an exit: the instant 10,000 ns after it goes on.
 exit-counts : (c : tie.After-plus) →
     let near = c .before .before in
-    let a = near .before .before .args in
+    let a = near .before .before .before .args in
     relieved (a .candidate) (a .near) ≡ leftAt (a .candidate) (near .near2 .given .0 .1 .0) (c .plus .result)
 unfolding relieved
 exit-counts c = rw (c .before .before .near2 .given .1, ← c .plus .ensures)
 
-returns : tie.Need-returns
-returns c = rw (exit-counts (c .before .before), c .enum-told3 .given .1)
+returns-3 : tie.Need-returns-3
+returns-3 c = rw (exit-counts (c .before .before), c .enum-told .given .1)
 
 is-before-requires : tie.Need-is-before-requires
 is-before-requires c κs = search needs
 
-returns-2 : tie.Need-returns-2
-returns-2 c =
+returns-4 : tie.Need-returns-4
+returns-4 c =
     let late = c .before .before .before in
     rw (exit-counts (late .before .before), late .latest .given .1, sym (c .before .is-before .ensures) ∙ c .if1 .taken)
 
 max-requires : tie.Need-max-requires
 max-requires c κs = search needs
 
-returns-3 : tie.Need-returns-3
-unfolding relieved
-returns-3 c = rw (c .before .near .given .1)
-
-returns-4 : tie.Need-returns-4
-unfolding relieved
-returns-4 c = rw (c .enum-told .given .1)
-
 returns-5 : tie.Need-returns-5
-unfolding relieved
-returns-5 c = rw (c .enum-told2 .given .1)
-
-returns-6 : tie.Need-returns-6
-returns-6 c =
+returns-5 c =
     let test = c .before in
     let late = test .before .before .before in
     rw (
@@ -77,17 +67,14 @@ says-exit-spec =
     tie.close
     (tie.spec
     enum-known-near
-    enum-told
-    enum-told-2
+    returns
     enum-known-near-2
+    returns-2
     plus-requires
     enum-known-latest
-    enum-told-3
-    returns
-    is-before-requires
-    returns-2
-    max-requires
+    enum-told
     returns-3
+    is-before-requires
     returns-4
-    returns-5
-    returns-6)
+    max-requires
+    returns-5)
