@@ -114,7 +114,7 @@ module _ (trip : Trip) (hints : List RankedHint) (links : List ℕ) (lent : List
 
     -- The hint at link k.
     module _ (h : WaitHint) (there : k < length links) (e : h ≡ getD hints (getD links k 0) blank .hint) where
-      next : Duration → Built
+      abbrev next : Duration → Built
       next sum = rest (waypointOf h) sum (k + 1)
 
       abbrev stopAt : WaitHint → ℕ → Built
