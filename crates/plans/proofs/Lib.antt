@@ -1,0 +1,8 @@
+pub mod Rowed
+pub mod Known
+pub mod Counted
+pub mod Short
+pub mod Fine
+mod Built
+mod Left
+mod Given
