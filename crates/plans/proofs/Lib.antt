@@ -6,3 +6,8 @@ pub mod Fine
 mod Built
 mod Left
 mod Given
+mod Few
+mod Fewer
+mod Keeping
+mod Handing
+mod Among

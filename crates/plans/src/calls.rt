@@ -161,7 +161,16 @@ fn plan_among(
                 speed: scale.speed,
             };
             linear_paths::compute_safe_linear_paths(
-                trip, budget, starts, numbers, times, xs, ys, &boxes, paths, actions,
+                trip,
+                budget,
+                starts,
+                numbers,
+                times,
+                xs,
+                ys,
+                &boxes,
+                paths,
+                actions,
             )
         }
     }
@@ -190,7 +199,18 @@ pub fn linear_paths(
             if agent.is_brief() {
                 return linear_paths::move_at_once(agent, paths, actions);
             }
-            plan_among(p, agent, budget, starts, numbers, times, xs, ys, paths, actions)
+            plan_among(
+                p,
+                agent,
+                budget,
+                starts,
+                numbers,
+                times,
+                xs,
+                ys,
+                paths,
+                actions,
+            )
         }
     }
 }

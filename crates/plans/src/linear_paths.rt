@@ -36,7 +36,14 @@ pub enum Paths {
 }
 
 // Puts the row of a path with so many actions at its place.
-fn put_path(out: &mut [u64], row: usize, arrival: TimePoint, pops: u64, hold: Duration, actions: usize)
+fn put_path(
+    out: &mut [u64],
+    row: usize,
+    arrival: TimePoint,
+    pops: u64,
+    hold: Duration,
+    actions: usize,
+)
     ensures { λ _. ⌜ now (out .exit) ≡ withRow (now (out .entry)) row (wordOf (arrival .0) ∷ (pops ∷ (wordOf (hold .0) ∷ (actions ∷ [])))) ⌝ }
 {
     let time = word::of_signed(arrival.0);
@@ -69,7 +76,18 @@ fn put_paths(
     while i < count {
         let arrival = TimePoint(list[i]);
         let path = arrival_path::compute_safe_arrival_path(
-            trip, arrival, hints, budget, starts, numbers, times, xs, ys, boxes, actions, row,
+            trip,
+            arrival,
+            hints,
+            budget,
+            starts,
+            numbers,
+            times,
+            xs,
+            ys,
+            boxes,
+            actions,
+            row,
         );
         match path {
             Found::Refused(n) => return Paths::Refused(n),
@@ -91,9 +109,8 @@ fn put_paths(
 pub(crate) fn refuse(paths: &mut [u64], actions: &mut [u64], number: u64) -> u64
     ensures { λ r. ⌜ PlanHanded (Refused number) (now (paths .entry)) (now (paths .exit)) (now (actions .entry)) (now (actions .exit)) r ⌝ }
 {
-    words::wipe_from(paths, 0);
-    words::wipe_from(actions, 0);
-    number
+    words::refuse(paths, number);
+    words::refuse(actions, number)
 }
 
 // Hands over so many rows of each room, with zero behind them: 12 where either room is too small.
@@ -143,13 +160,32 @@ fn plan_paths(
     ensures { λ r. ⌜ PlanHanded (pathsPlanned trip (obstaclesWith (lentOf (now (starts .entry)) (now (numbers .entry)) (now (times .entry)) (now (xs .entry)) (now (ys .entry))) (boxIn (now (boxes .entry)))) (held hints) budget (instantsOf (take count (now (list .entry)))) sweeps) (now (paths .entry)) (now (paths .exit)) (now (actions .entry)) (now (actions .exit)) r ⌝ }
 {
     let put = put_paths(
-        trip, hints, budget, list, count, starts, numbers, times, xs, ys, boxes, paths, actions,
+        trip,
+        hints,
+        budget,
+        list,
+        count,
+        starts,
+        numbers,
+        times,
+        xs,
+        ys,
+        boxes,
+        paths,
+        actions,
     );
     match put {
         Paths::Refused(n) => refuse(paths, actions, n),
         Paths::Of(found, many) => {
             let n = hints.len();
-            rows::put_row(paths, 0, n as u64, count as u64, sweeps as u64, found as u64);
+            rows::put_row(
+                paths,
+                0,
+                n as u64,
+                count as u64,
+                sweeps as u64,
+                found as u64,
+            );
             settle(paths, 1 + found, actions, many)
         }
     }
@@ -176,12 +212,32 @@ fn plan_times(
     let profile = trip.profile;
     let mut list = [0i64; 289];
     let arrivals = arrival_times::times_among(
-        profile, leg.end, starts, numbers, times, xs, ys, &mut list,
+        profile,
+        leg.end,
+        starts,
+        numbers,
+        times,
+        xs,
+        ys,
+        &mut list,
     );
     match arrivals {
         Arrivals::Refused(n) => refuse(paths, actions, n),
         Arrivals::Listed(count, sweeps) => plan_paths(
-            trip, hints, budget, &list, count, sweeps, starts, numbers, times, xs, ys, boxes, paths, actions,
+            trip,
+            hints,
+            budget,
+            &list,
+            count,
+            sweeps,
+            starts,
+            numbers,
+            times,
+            xs,
+            ys,
+            boxes,
+            paths,
+            actions,
         ),
     }
 }
@@ -206,11 +262,31 @@ pub(crate) fn compute_safe_linear_paths(
     let profile = trip.profile;
     let bounds = BoundingBox::for_line(profile.footprint, leg);
     let hints = path_hints::compute_safe_linear_path_wait_hints(
-        profile, leg, bounds, starts, numbers, times, xs, ys, boxes,
+        profile,
+        leg,
+        bounds,
+        starts,
+        numbers,
+        times,
+        xs,
+        ys,
+        boxes,
     );
     let refused = hints.refused;
     if refused != 0 {
         return refuse(paths, actions, refused);
     }
-    plan_times(trip, hints, budget, starts, numbers, times, xs, ys, boxes, paths, actions)
+    plan_times(
+        trip,
+        hints,
+        budget,
+        starts,
+        numbers,
+        times,
+        xs,
+        ys,
+        boxes,
+        paths,
+        actions,
+    )
 }
