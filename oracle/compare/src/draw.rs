@@ -5,7 +5,7 @@ use planner::generate::dice::Dice;
 use planner::generate::{case, Kind};
 use planner::request::Request;
 use planner::stream;
-use terms::{Leg, Obstacle, Waypoint};
+use terms::{Leg, Obstacle, Scene, Waypoint};
 
 /// A request of some kind, and dice to choose from it.
 pub struct Drawn {
@@ -143,6 +143,14 @@ impl Drawn {
 /// The nearest coordinate that is on the floor.
 pub fn on_floor(x: f64) -> f64 {
     x.clamp(-domain::FARTHEST, domain::FARTHEST)
+}
+
+/// How many legs one obstacle more may have.
+pub fn legs_left(scene: &Scene) -> usize {
+    match scene.obstacles.len() < domain::OBSTACLES {
+        true => domain::LEGS.saturating_sub(scene.legs()),
+        false => 0,
+    }
 }
 
 /// By a chance: leaves an obstacle a single waypoint, lets its times fall, or takes its trajectory;

@@ -135,6 +135,57 @@ extern "C" {
         out: *mut u64,
         out_len: usize,
     ) -> u64;
+    fn igelbert_arrival_path(
+        footprint: f64,
+        follow: f64,
+        t0: i64,
+        x0: f64,
+        y0: f64,
+        t1: i64,
+        x1: f64,
+        y1: f64,
+        arrival: i64,
+        budget: u64,
+        starts: *const usize,
+        starts_len: usize,
+        numbers: *const f64,
+        numbers_len: usize,
+        times: *const i64,
+        times_len: usize,
+        xs: *const f64,
+        xs_len: usize,
+        ys: *const f64,
+        ys_len: usize,
+        hints: *const u64,
+        hints_len: usize,
+        out: *mut u64,
+        out_len: usize,
+    ) -> u64;
+    fn igelbert_linear_paths(
+        footprint: f64,
+        follow: f64,
+        t0: i64,
+        x0: f64,
+        y0: f64,
+        t1: i64,
+        x1: f64,
+        y1: f64,
+        budget: u64,
+        starts: *const usize,
+        starts_len: usize,
+        numbers: *const f64,
+        numbers_len: usize,
+        times: *const i64,
+        times_len: usize,
+        xs: *const f64,
+        xs_len: usize,
+        ys: *const f64,
+        ys_len: usize,
+        paths: *mut u64,
+        paths_len: usize,
+        actions: *mut u64,
+        actions_len: usize,
+    ) -> u64;
     fn igelbert_critical_distance(
         footprint: f64,
         follow: f64,
@@ -197,8 +248,8 @@ extern "C" {
     ) -> u64;
 }
 
-// SAFETY, of each call below: each pointer and its length are those of one slice, and `out` is an
-// exclusive one, which is all that the proved functions ask of a caller.
+// SAFETY, of each call below: each pointer and its length are those of one slice, and those written
+// to are exclusive ones, which is all that the proved functions ask of a caller.
 
 pub fn square_root(x: f64, out: &mut [u64]) -> u64 {
     unsafe { igelbert_square_root(x, out.as_mut_ptr(), out.len()) }
@@ -408,6 +459,82 @@ pub fn arrival_times(p: Profile, place: Waypoint, table: &Table, out: &mut [u64]
             table.ys.len(),
             out.as_mut_ptr(),
             out.len(),
+        )
+    }
+}
+
+pub fn arrival_path(
+    p: Profile,
+    (a, b): Leg,
+    arrival: i64,
+    budget: u64,
+    table: &Table,
+    hints: &[u64],
+    out: &mut [u64],
+) -> u64 {
+    unsafe {
+        igelbert_arrival_path(
+            p.footprint,
+            p.follow,
+            a.time,
+            a.x,
+            a.y,
+            b.time,
+            b.x,
+            b.y,
+            arrival,
+            budget,
+            table.starts.as_ptr(),
+            table.starts.len(),
+            table.numbers.as_ptr(),
+            table.numbers.len(),
+            table.times.as_ptr(),
+            table.times.len(),
+            table.xs.as_ptr(),
+            table.xs.len(),
+            table.ys.as_ptr(),
+            table.ys.len(),
+            hints.as_ptr(),
+            hints.len(),
+            out.as_mut_ptr(),
+            out.len(),
+        )
+    }
+}
+
+pub fn linear_paths(
+    p: Profile,
+    (a, b): Leg,
+    budget: u64,
+    table: &Table,
+    paths: &mut [u64],
+    actions: &mut [u64],
+) -> u64 {
+    unsafe {
+        igelbert_linear_paths(
+            p.footprint,
+            p.follow,
+            a.time,
+            a.x,
+            a.y,
+            b.time,
+            b.x,
+            b.y,
+            budget,
+            table.starts.as_ptr(),
+            table.starts.len(),
+            table.numbers.as_ptr(),
+            table.numbers.len(),
+            table.times.as_ptr(),
+            table.times.len(),
+            table.xs.as_ptr(),
+            table.xs.len(),
+            table.ys.as_ptr(),
+            table.ys.len(),
+            paths.as_mut_ptr(),
+            paths.len(),
+            actions.as_mut_ptr(),
+            actions.len(),
         )
     }
 }

@@ -47,7 +47,12 @@ impl Report {
 
     /// Counts one answer of a sort that a run should have often.
     pub fn see(&mut self, sort: &'static str) {
-        *self.seen.entry(sort).or_default() += 1;
+        self.see_if(sort, true);
+    }
+
+    /// The same where it is of that sort; one that never came is told too.
+    pub fn see_if(&mut self, sort: &'static str, is: bool) {
+        *self.seen.entry(sort).or_default() += usize::from(is);
     }
 
     pub fn differing(&self) -> usize {

@@ -4,12 +4,15 @@ use terms::Fault;
 
 /// What a call is to hand over: an answer's words, or the number of a refusal.
 #[derive(Clone, Debug, PartialEq)]
-pub enum Expected {
-    Words(Vec<u64>),
+pub enum Expected<L = Vec<u64>> {
+    Words(L),
     Refused(u64),
 }
 
-/// What a call handed over.
+/// The words for two rooms.
+pub type Lists = [Vec<u64>; 2];
+
+/// What a call handed over; of two rooms the second stands behind the first.
 #[derive(Clone, Debug, PartialEq)]
 pub struct Handed {
     pub number: u64,
@@ -21,13 +24,15 @@ const NO_ROOM: u64 = 12;
 /// A call that is refused after some work may have put its first results into so many words.
 const CLEARED: usize = 20;
 
-impl Expected {
+impl<L> Expected<L> {
     /// The refusal in the place of a fault of the Rust's; a number that none has, where the rules
     /// name none.
     pub fn fault(fault: &Fault) -> Self {
         Expected::Refused(fault.number().map_or(u64::MAX, u64::from))
     }
+}
 
+impl Expected {
     /// A room that suits it: for an answer its own words, for a refusal some that it must clear.
     pub fn room(&self) -> usize {
         match self {
@@ -43,10 +48,41 @@ impl Expected {
             Expected::Words(_) => (NO_ROOM, &[]),
             Expected::Refused(n) => (*n, &[]),
         };
-        let mut room = words.to_vec();
-        room.resize(len, 0);
+        let room = filled_up(words, len);
         Handed { number, room }
     }
+}
+
+impl Expected<Lists> {
+    /// Rooms that suit it.
+    pub fn rooms(&self) -> [usize; 2] {
+        match self {
+            Expected::Words(lists) => [lists[0].len(), lists[1].len()],
+            Expected::Refused(_) => [CLEARED; 2],
+        }
+    }
+
+    /// The same of two rooms: where either is too small both are zero.
+    pub fn in_rooms(&self, lens: [usize; 2]) -> Handed {
+        let fits = |lists: &Lists| lists[0].len() <= lens[0] && lists[1].len() <= lens[1];
+        let (number, words): (u64, [&[u64]; 2]) = match self {
+            Expected::Words(lists) if fits(lists) => (0, [&lists[0], &lists[1]]),
+            Expected::Words(_) => (NO_ROOM, [&[]; 2]),
+            Expected::Refused(n) => (*n, [&[]; 2]),
+        };
+        let rooms = [0, 1].map(|k| filled_up(words[k], lens[k]));
+        Handed {
+            number,
+            room: rooms.concat(),
+        }
+    }
+}
+
+/// Words, and zeros behind them.
+fn filled_up(words: &[u64], len: usize) -> Vec<u64> {
+    let mut room = words.to_vec();
+    room.resize(len, 0);
+    room
 }
 
 /// Lends a room of so many words, none of them zero, to a call.
@@ -54,4 +90,12 @@ pub fn lend(len: usize, call: impl FnOnce(&mut [u64]) -> u64) -> Handed {
     let mut room = vec![0xdead_beef_dead_beef; len];
     let number = call(&mut room);
     Handed { number, room }
+}
+
+/// Lends two rooms.
+pub fn lend_two(lens: [usize; 2], call: impl FnOnce(&mut [u64], &mut [u64]) -> u64) -> Handed {
+    lend(lens[0] + lens[1], |room| {
+        let (first, second) = room.split_at_mut(lens[0]);
+        call(first, second)
+    })
 }

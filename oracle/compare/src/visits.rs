@@ -1,9 +1,9 @@
 //! Questions about arrival times: a place, a time and obstacles, drawn so that the obstacles come to
 //! the place, touch its clearance, stop there and leave it.
 
-use crate::draw::{misshape, on_floor, Drawn};
+use crate::draw::{legs_left, misshape, on_floor, Drawn};
 use mapf_watched::ask;
-use planner::domain::{self, FARTHEST, LATEST, LEGS, OBSTACLES};
+use planner::domain::{self, FARTHEST, LATEST, OBSTACLES};
 use planner::generate::dice::Dice;
 use planner::marked::S;
 use planner::request::Request;
@@ -111,14 +111,6 @@ fn turn_back(cart: &mut Obstacle, n: usize) {
     match cart.waypoints.get_mut(n + 1) {
         Some(next) => *next = start.at(next.time),
         None => cart.waypoints.push(start.at(later)),
-    }
-}
-
-/// How many legs one obstacle more may have.
-fn legs_left(scene: &Scene) -> usize {
-    match scene.obstacles.len() < OBSTACLES {
-        true => LEGS.saturating_sub(scene.legs()),
-        false => 0,
     }
 }
 

@@ -243,6 +243,7 @@ pub fn compute_safe_arrival_path(
             &hints,
             &floor,
         );
+        ended();
         found.map(|path| Path {
             actions: path.into_iter().map(action).collect(),
             pops: pops(),
@@ -276,10 +277,16 @@ fn line(leg: Leg) -> (WaypointR2, WaypointR2) {
 }
 
 #[cfg(feature = "watched")]
-use reach::watch::{pops, start};
+pub use reach::watch::search;
+
+#[cfg(feature = "watched")]
+use reach::watch::{ended, pops, start};
 
 #[cfg(not(feature = "watched"))]
 fn start(_: usize) {}
+
+#[cfg(not(feature = "watched"))]
+fn ended() {}
 
 #[cfg(not(feature = "watched"))]
 fn pops() -> usize {

@@ -11,6 +11,9 @@ pub const LARGEST_CONFLICT: f64 = 1_000_000.0;
 pub const OBSTACLES: usize = 32;
 pub const LEGS: usize = 256;
 
+/// In pops.
+pub const BUDGET: u64 = 65_535;
+
 /// The refusal that comes before any work: 2, then 1 by fields in stream order, then 3.
 pub fn refused(r: &Request) -> Option<u8> {
     if !shaped(r) {

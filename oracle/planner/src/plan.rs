@@ -55,8 +55,17 @@ pub fn of_stream(bytes: &[u8]) -> Result<Plan, Stop> {
     }
 }
 
-/// The plan of a request.
+/// The plan of a request, in the room that `plan` has.
 pub fn of(r: &Request) -> Result<Plan, Stop> {
+    let plan = whole(r)?;
+    if plan.paths.iter().map(|p| p.actions.len()).sum::<usize>() > ROOM {
+        return Err(Stop::Refused(12));
+    }
+    Ok(plan)
+}
+
+/// The plan of a request, however many actions it has.
+pub fn whole(r: &Request) -> Result<Plan, Stop> {
     if let Some(number) = domain::refused(r) {
         return Err(Stop::Refused(number));
     }
@@ -68,9 +77,6 @@ pub fn of(r: &Request) -> Result<Plan, Stop> {
     let mut paths = Vec::new();
     for &arrival in &found.times {
         paths.extend(path(r, arrival, &hints)?);
-    }
-    if paths.iter().map(|p| p.actions.len()).sum::<usize>() > ROOM {
-        return Err(Stop::Refused(12));
     }
     Ok(Plan {
         hints,

@@ -119,6 +119,21 @@ pub struct Path {
     pub pops: usize,
 }
 
+/// What searches for paths did.
+#[derive(Clone, Copy, Debug, Default, PartialEq, Eq)]
+pub struct Search {
+    pub pops: usize,
+    pub roots_moved_up: usize,
+    pub children_tried: usize,
+    pub children_failed: usize,
+    pub children_passed_over: usize,
+    pub own_starts_failed: usize,
+    /// Ways that end before they start, near an obstacle.
+    pub backward_ways: usize,
+    /// Those of them that a leg of the obstacle spans, by less than 100,000 ns: short ranges.
+    pub short_backward_ways: usize,
+}
+
 /// Why a call of the Rust gave no answer, told apart by where it stopped.
 #[derive(Clone, Debug, PartialEq, Eq)]
 pub enum Fault {

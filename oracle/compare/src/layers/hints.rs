@@ -4,6 +4,7 @@
 
 use crate::draw::{each, misshape, on_floor, Drawn};
 use crate::lent::ask_once;
+use crate::lent_hints;
 use crate::proved;
 use crate::report::Report;
 use crate::room::Expected;
@@ -151,7 +152,7 @@ fn expected(request: &Request) -> Expected {
         return Expected::Refused(NO_LINE);
     }
     match ranked(request) {
-        Ok(hints) => Expected::Words(words(&hints)),
+        Ok(hints) => Expected::Words(lent_hints::words(&hints)),
         Err(fault) => Expected::fault(&fault),
     }
 }
@@ -184,23 +185,4 @@ fn bits(hint: &WaitHint) -> (u64, u64, i64, usize) {
         hint.until,
         hint.obstacle,
     )
-}
-
-/// How many there are, and six words each.
-fn words(hints: &[RankedHint]) -> Vec<u64> {
-    let six = |ranked: &RankedHint| {
-        let (x, y, until, obstacle) = bits(&ranked.hint);
-        let reach = ranked.reach.to_bits();
-        [
-            ranked.contour as u64,
-            reach,
-            x,
-            y,
-            until as u64,
-            obstacle as u64,
-        ]
-    };
-    let mut all = vec![hints.len() as u64];
-    all.extend(hints.iter().flat_map(six));
-    all
 }

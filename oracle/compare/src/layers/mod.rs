@@ -4,6 +4,8 @@ pub mod arrivals;
 pub mod boxes;
 pub mod conflict;
 pub mod hints;
+pub mod path;
+pub mod plan;
 pub mod positions;
 pub mod profiles;
 pub mod proximity;
@@ -64,5 +66,13 @@ pub const ALL: &[Layer] = &[
     Layer {
         name: "arrivals",
         compare: arrivals::compare,
+    },
+    Layer {
+        name: "path",
+        compare: path::compare,
+    },
+    Layer {
+        name: "plan",
+        compare: plan::compare,
     },
 ];

@@ -114,6 +114,8 @@ impl Environment<CircularProfile, DynamicCircularObstacle<WaypointR2>> for Floor
             panic_any(Endless);
         }
         self.readings.set(self.readings.get() + 1);
+        #[cfg(feature = "watched")]
+        super::conflict::reach::watch::way_begins();
         self.obstacles.iter()
     }
 }

@@ -48,6 +48,8 @@ impl<W: Waypoint> Trajectory<W> {
     pub fn iter_range(&self, begin: TimePoint, end: TimePoint) -> Waypoints<'_, W> {
         let Waypoints(left) = self.iter_from(begin);
         let begun = left.iter().take_while(|w| w.time() <= end).count();
+        #[cfg(feature = "watched")]
+        super::conflict::reach::watch::way_is_read(begin, end, begun > 0 && left.len() > 1);
         match begun {
             0 => Waypoints(&[]),
             _ => Waypoints(&left[..left.len().min(begun + 1)]),

@@ -14,8 +14,8 @@ use std::ops::{Deref, DerefMut};
 pub enum Event {
     /// An element, behind this pointer, is about to join a list of so many.
     Push { element: *const (), len: usize },
-    /// An element is about to be removed.
-    Pop,
+    /// The element behind this pointer is about to be removed.
+    Pop { element: *const () },
 }
 
 /// Called with the element type's name and the event.
@@ -52,8 +52,9 @@ impl<A: Array> SmallVec<A> {
     }
 
     pub fn pop(&mut self) -> Option<A::Item> {
-        if !self.0.is_empty() {
-            tell(type_name::<A::Item>(), Event::Pop);
+        if let Some(last) = self.0.last() {
+            let element = (last as *const A::Item).cast();
+            tell(type_name::<A::Item>(), Event::Pop { element });
         }
         self.0.pop()
     }
