@@ -35,7 +35,19 @@ pub extern "C" fn igelbert_arrival_path(
     let p = CircularProfile { footprint, follow };
     let agent = shape_calls::leg_of(t0, x0, y0, t1, x1, y1);
     let asked = TimePoint(arrival);
-    calls::arrival_path(p, agent, asked, budget, starts, numbers, times, xs, ys, hints, out)
+    calls::arrival_path(
+        p,
+        agent,
+        asked,
+        budget,
+        starts,
+        numbers,
+        times,
+        xs,
+        ys,
+        hints,
+        out,
+    )
 }
 
 // The whole plan among the obstacles of a lent table: counts and paths in one room, the actions of all paths in the other.
@@ -62,5 +74,16 @@ pub extern "C" fn igelbert_linear_paths(
 {
     let p = CircularProfile { footprint, follow };
     let agent = shape_calls::leg_of(t0, x0, y0, t1, x1, y1);
-    calls::linear_paths(p, agent, budget, starts, numbers, times, xs, ys, paths, actions)
+    calls::linear_paths(
+        p,
+        agent,
+        budget,
+        starts,
+        numbers,
+        times,
+        xs,
+        ys,
+        paths,
+        actions,
+    )
 }

@@ -1,6 +1,6 @@
 pub mod Reading
 mod Widening
-mod Counting
+pub mod Counting
 pub mod Legs
 pub mod Filling
 pub mod Shaped
