@@ -19,20 +19,22 @@ use Rattle.ways.specs.Travel.{waypointOf, reachedFrom}
 use Rattle.ways.specs.declared.travel.Reached.{Reached}
 use Rattle.ways.specs.declared.travel.Reached.the-variants as W
 use Rattle.ways.specs.declared.trip.Trip.{Trip}
-use Rattle.plans.specs.Path.{Built, Of, Refused, reaching, spanning, holdAfter, stopped, ended, before, andOn, built, hintsAt, unheld}
+use Rattle.plans.specs.Path.{Built, Of, Refused, reaching, spanning, before, andOn}
+use Rattle.plans.specs.Path.{holdAfter, stopped, ended, built, hintsAt, unheld}
 use Rattle.plans.specs.declared.action.SafeAction.{SafeAction}
-use Rattle.plans.specs.declared.action.SafeAction.the-variants.{Move, Wait}
 
 -- So many actions, where it is no refusal.
 abbrev pub Counts : ℕ → Built → Type 0
 Counts n (Of actions hold) = length actions ≡ n
 Counts n (Refused k) = Unit {0}
 
-reaching-counts : (n : ℕ) (r : Reached) (go : Waypoint → Built) → ((w : Waypoint) → Counts n (go w)) → Counts n (reaching r go)
+reaching-counts : (n : ℕ) (r : Reached) (go : Waypoint → Built) →
+    ((w : Waypoint) → Counts n (go w)) → Counts n (reaching r go)
 reaching-counts n (W.At w) go h = h w
 reaching-counts n (W.Refused k) go h = tt
 
-spanning-counts : (n : ℕ) (s : Span) (go : Duration → Built) → ((d : Duration) → Counts n (go d)) → Counts n (spanning s go)
+spanning-counts : (n : ℕ) (s : Span) (go : Duration → Built) →
+    ((d : Duration) → Counts n (go d)) → Counts n (spanning s go)
 spanning-counts n (S.Of d) go h = h d
 spanning-counts n S.Strayed go h = tt
 
@@ -45,7 +47,8 @@ on-counts : (n m : ℕ) (b : Built) (go : Duration → Built) →
 on-counts n m (Of actions hold) go h g = rw (← h) (before-counts actions m (go hold) (g hold))
 on-counts n m (Refused k) go h g = tt
 
-pub stopped-counts : (trip : Trip) (from : Waypoint) (h : WaitHint) (hold : Duration) → Counts 2 (stopped trip from h hold)
+pub stopped-counts : (trip : Trip) (from : Waypoint) (h : WaitHint) (hold : Duration) →
+    Counts 2 (stopped trip from h hold)
 unfolding stopped
 stopped-counts trip from h hold =
     reaching-counts 2 (reachedFrom (trip .speed) from (h .place)) _ (λ w.
@@ -55,7 +58,7 @@ ended-counts : (trip : Trip) (from : Waypoint) (hold : Duration) → Counts 1 (e
 unfolding ended
 ended-counts trip from hold = reaching-counts 1 (reachedFrom (trip .speed) from (placeOf (trip .leg .end))) _ (λ w. refl)
 
-pub built-counts : (trip : Trip) (from : Waypoint) (hold : Duration) (hints : List WaitHint) →
+built-counts : (trip : Trip) (from : Waypoint) (hold : Duration) (hints : List WaitHint) →
     Counts (2 * length hints + 1) (built trip from hold hints)
 unfolding built
 built-counts trip from hold [] = ended-counts trip from hold

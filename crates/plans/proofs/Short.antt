@@ -9,8 +9,8 @@ use lib.Dec.{eqb}
 use lib.ListN.{length, length-take}
 use Rattle.numbers.specs.declared.time.Duration.{Duration}
 use Rattle.numbers.specs.declared.time.TimePoint.{TimePoint}
-use Rattle.obstacles.specs.Obstacle.{Obstacle}
 use Rattle.ranking.specs.declared.order.RankedHint.{RankedHint}
+use Rattle.obstacles.specs.Obstacle.{Obstacle}
 use Rattle.chains.specs.Answer.{Answer, Way, NoWay, Refused}
 use Rattle.chains.specs.Handed.{chainOf, linksIn, firstOf, answered}
 use Rattle.chains.specs.declared.trial.Trial.{Trial}
@@ -22,7 +22,8 @@ use Rattle.ways.specs.declared.roots.Contour.the-variants as C
 use Rattle.ways.specs.declared.trip.Trip.{Trip}
 use Rattle.paths.specs.Trying.{chainFrom}
 use Rattle.plans.specs.Path as P
-use Rattle.plans.specs.Path.{Built, Sought, Path, Missing, built, hintsAt, unheld, withPops, alongHints, taken, contoured, byHints, pathFor}
+use Rattle.plans.specs.Path.{Built, Sought, Path, Missing, withPops, contoured}
+use Rattle.plans.specs.Path.{built, hintsAt, unheld, alongHints, taken, byHints, pathFor}
 use Rattle.plans.specs.declared.action.SafeAction.{SafeAction}
 use Rattle.plans.proofs.Counted.{Counts, chain-counts}
 

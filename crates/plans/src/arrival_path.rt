@@ -31,7 +31,14 @@ pub enum Found {
 }
 
 // The path along a chain.
-fn along(trip: Trip, hints: RankedHints, chain: Chain, pops: u64, out: &mut [u64], row: usize) -> Found
+fn along(
+    trip: Trip,
+    hints: RankedHints,
+    chain: Chain,
+    pops: u64,
+    out: &mut [u64],
+    row: usize,
+) -> Found
     requires { ⌜ row ≤ 100_000 ⌝ }
     ensures { λ r. ⌜ PutPath (alongHints trip (held hints) (linksIn chain) pops) (now (out .entry)) (now (out .exit)) row r ⌝ }
 {
@@ -85,7 +92,16 @@ fn by_hints(
         Contour::Of(goal) => {
             let first = roots::first_root(hints, goal);
             let tried = trying::find_chain(
-                trip, hints, budget, first, starts, numbers, times, xs, ys, boxes,
+                trip,
+                hints,
+                budget,
+                first,
+                starts,
+                numbers,
+                times,
+                xs,
+                ys,
+                boxes,
             );
             take(trip, hints, tried, out, row)
         }
@@ -120,7 +136,18 @@ pub(crate) fn compute_safe_arrival_path(
             Found::Path(1, 0, Duration(0))
         }
         Trial::Failed => by_hints(
-            trip, arrival, hints, budget, starts, numbers, times, xs, ys, boxes, out, row,
+            trip,
+            arrival,
+            hints,
+            budget,
+            starts,
+            numbers,
+            times,
+            xs,
+            ys,
+            boxes,
+            out,
+            row,
         ),
     }
 }

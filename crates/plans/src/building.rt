@@ -37,7 +37,14 @@ fn hold_after(hold: Duration, arrival: TimePoint, until: TimePoint) -> Span
 }
 
 // Moving from a waypoint to a hint's place and waiting there: two rows, and the hold with this wait.
-fn put_stop(trip: Trip, from: Waypoint, hint: WaitHint, hold: Duration, out: &mut [u64], row: usize) -> Hold
+fn put_stop(
+    trip: Trip,
+    from: Waypoint,
+    hint: WaitHint,
+    hold: Duration,
+    out: &mut [u64],
+    row: usize,
+) -> Hold
     requires { ⌜ row ≤ 1_000_000 ⌝ }
     ensures { λ r. ⌜ Put (stopped trip from hint hold) (now (out .entry)) (now (out .exit)) row r ⌝ }
 {
@@ -75,7 +82,13 @@ fn put_end(trip: Trip, from: Waypoint, hold: Duration, out: &mut [u64], row: usi
 }
 
 // The actions of a whole path from `row` on: two for each hint of the chain, and the last move.
-pub(crate) fn build(trip: Trip, hints: RankedHints, chain: Chain, out: &mut [u64], row: usize) -> Hold
+pub(crate) fn build(
+    trip: Trip,
+    hints: RankedHints,
+    chain: Chain,
+    out: &mut [u64],
+    row: usize,
+) -> Hold
     requires { ⌜ row ≤ 100_000 ⌝ }
     ensures { λ r. ⌜ Put (built trip (trip .leg .start) (record { 0 = pos 0 }) (hintsAt (held hints) (linksIn chain))) (now (out .entry)) (now (out .exit)) row r ⌝ }
 {

@@ -1,15 +1,15 @@
--- `plans::arrival_path::along` meets its contract: two actions for each hint of the chain and the last move, or the refusal of one.
+-- `plans::arrival_path::along` meets its contract: two actions for each hint of the chain and the last move, or a refusal.
 -- Assumes nothing.
 use Prim.Native.Nat.{_≤_}
 use mathlib.Core.Path.{_≡_}
 use native.Mathlib.Omega.{arith}
+use borrow.Author.Needs.{needs}
 use lib.ListN.{length, length-map}
 use Rattle.ranking.specs.Hints.{held}
 use Rattle.chains.specs.Handed.{linksIn}
 use Rattle.plans.specs.Path.{Built, built, hintsAt, unheld, alongHints}
 use Rattle.plans.proofs.Counted.{chain-counts, few-links}
 use Rattle.plans.proofs.Left.{along-refused, along-found}
-use borrow.Author.Needs.{needs}
 use Rattle.plans.proofs.arrival_path.along.Statement.{statement}
 use Rattle.plans.proofs.arrival_path.along.Tie as tie
 

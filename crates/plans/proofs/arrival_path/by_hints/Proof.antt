@@ -1,12 +1,12 @@
--- `plans::arrival_path::by_hints` meets its contract: none where there are no hints, else what the search from its root comes to.
+-- `plans::arrival_path::by_hints` meets its contract: none without hints, else what the search from its root comes to.
 -- Assumes nothing.
 use mathlib.Core.Path.{_≡_, sym, _∙_}
 use borrow.Author.Tests.{eq-eqb, ne-eqb}
+use borrow.Author.Needs.{needs}
 use lib.ListN.{length}
 use Rattle.ranking.specs.Hints.{held}
 use Rattle.plans.specs.Path.{byHints}
 use Rattle.plans.proofs.Left.{put-missing, put-refused}
-use borrow.Author.Needs.{needs}
 use Rattle.plans.proofs.arrival_path.by_hints.Statement.{statement}
 use Rattle.plans.proofs.arrival_path.by_hints.Tie as tie
 

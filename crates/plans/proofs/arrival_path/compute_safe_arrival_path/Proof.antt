@@ -1,11 +1,11 @@
--- `plans::arrival_path::compute_safe_arrival_path` meets its contract: one move where the direct path is safe, else by way of hints.
+-- `plans::arrival_path::compute_safe_arrival_path` meets its contract: one move where that is safe, else by way of hints.
 -- Assumes nothing.
 use mathlib.Core.Path.{sym, _∙_}
 use mathlib.Core.List.{[], _∷_}
+use borrow.Author.Needs.{needs}
 use Rattle.plans.specs.Path.{unheld, pathFor}
 use Rattle.plans.specs.declared.action.SafeAction.the-variants.{Move}
 use Rattle.plans.proofs.Left.{one-row, put-refused, put-path}
-use borrow.Author.Needs.{needs}
 use Rattle.plans.proofs.arrival_path.compute_safe_arrival_path.Statement.{statement}
 use Rattle.plans.proofs.arrival_path.compute_safe_arrival_path.Tie as tie
 
@@ -52,7 +52,8 @@ returns-3 : tie.Need-returns-3
 unfolding pathFor
 returns-3 c =
     let failed = c .before .before .before .before in
-    rw (sym (failed .before .before .can-arrive-safely .ensures) ∙ failed .enum-told2 .given .1) (c .before .before .by-hints .ensures)
+    rw (sym (failed .before .before .can-arrive-safely .ensures) ∙ failed .enum-told2 .given .1)
+    (c .before .before .by-hints .ensures)
 
 pub compute-safe-arrival-path-spec : {M : Type 1} → statement M
 compute-safe-arrival-path-spec =

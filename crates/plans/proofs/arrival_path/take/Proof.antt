@@ -1,8 +1,8 @@
 -- `plans::arrival_path::take` meets its contract: by the ending of the search.
 -- Assumes nothing.
+use borrow.Author.Needs.{needs}
 use Rattle.plans.specs.Path.{taken}
 use Rattle.plans.proofs.Left.{put-missing, put-refused}
-use borrow.Author.Needs.{needs}
 use Rattle.plans.proofs.arrival_path.take.Statement.{statement}
 use Rattle.plans.proofs.arrival_path.take.Tie as tie
 

@@ -1,7 +1,7 @@
 -- `plans::asking::is_asked` meets its contract: its two tests are the definition's.
 -- Assumes nothing.
-use Rattle.floats.proofs.Tests.{found-true, found-false}
 use borrow.Author.Needs.{needs}
+use Rattle.floats.proofs.Tests.{found-true, found-false}
 use Rattle.plans.proofs.asking.is_asked.Statement.{statement}
 use Rattle.plans.proofs.asking.is_asked.Tie as tie
 

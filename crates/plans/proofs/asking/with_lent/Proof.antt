@@ -1,8 +1,8 @@
 -- `plans::asking::with_lent` meets its contract: its tests are the definition's, in its order.
 -- Assumes nothing.
 use borrow.Author.Tests.{eq-eqb, ne-eqb}
-use Rattle.plans.specs.Asked.{withLent}
 use borrow.Author.Needs.{needs}
+use Rattle.plans.specs.Asked.{withLent}
 use Rattle.plans.proofs.asking.with_lent.Statement.{statement}
 use Rattle.plans.proofs.asking.with_lent.Tie as tie
 

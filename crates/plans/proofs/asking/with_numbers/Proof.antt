@@ -1,7 +1,7 @@
 -- `plans::asking::with_numbers` meets its contract: what was found, or a ground for 1.
 -- Assumes nothing.
-use Rattle.plans.specs.Asked.{withNumbers}
 use borrow.Author.Needs.{needs}
+use Rattle.plans.specs.Asked.{withNumbers}
 use Rattle.plans.proofs.asking.with_numbers.Statement.{statement}
 use Rattle.plans.proofs.asking.with_numbers.Tie as tie
 

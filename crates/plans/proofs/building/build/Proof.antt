@@ -1,7 +1,7 @@
 -- `plans::building::build` meets its contract: what is built from link k on, behind the rows so far, is the whole.
 -- Assumes nothing.
 use Prim.Native.Nat.{_-_, _≤_, _<_}
-use mathlib.Core.Path.{_≡_, sym, ap, _∙_}
+use mathlib.Core.Path.{_≡_, ap, _∙_}
 use native.Mathlib.Omega.{arith}
 use borrow.Author.Needs.{needs}
 use lib.ListN.{length, length-map, length-take, getD}
@@ -30,6 +30,13 @@ few : (c : tie.After-len Inv-loop μ-loop) → c .len .result ≤ 64
 few c =
     let s = c .before .before .before in
     omega (arith, few-links (s .args .t3) (places s), c .len .ensures)
+
+-- The row that the loop is at leaves room for more.
+low : (c : tie.In-loop Inv-loop μ-loop) → c .before .loop .at ≤ 1000000
+low c =
+    let g = c .before .loop .inv in
+    let n = c .before .before .before in
+    omega (arith, few n, g .place, g .counted, n .before .before .before .pre)
 
 -- The loop is at a link, and reads its hint.
 there : (c : tie.In-loop Inv-loop μ-loop) →
@@ -69,11 +76,7 @@ at-requires : tie.Need-at-requires Inv-loop μ-loop
 at-requires c κs = search needs
 
 put-stop-requires : tie.Need-put-stop-requires Inv-loop μ-loop
-put-stop-requires c κs =
-    let l = c .before .before .before .before .before in
-    let g = l .loop .inv in
-    let n = l .before .before in
-    omega (arith, few n, g .place, g .counted, n .before .before .before .pre)
+put-stop-requires c κs = low (c .before .before .before .before)
 
 enum-known-stop : tie.Need-enum-known-stop Inv-loop μ-loop
 enum-known-stop c = search needs
@@ -85,27 +88,21 @@ same-length : tie.Need-same-length Inv-loop μ-loop
 same-length c =
     let put = c .before .before .before .before in
     let l = put .before .before .before .before .before .before in
-    let a = l .before .before .before .before .before .args in
-    put .put-stop .ensures .long ∙ going-long (a .trip) (held (a .hints)) (linksIn (a .t3)) (a .out .now) (a .row) (l .loop .inv)
+    put .put-stop .ensures .long ∙ going-long (l .loop .inv)
 
 returns : tie.Need-returns Inv-loop μ-loop
 returns c =
     let put = c .before .before .before .before in
     let h = put .before .before .before in
     let l = h .before .before .before in
-    let a = l .before .before .before .before .before .args in
-    going-refused (a .trip) (held (a .hints)) (linksIn (a .t3)) (a .out .now) (a .row) (l .loop .inv) (h .at .result .hint)
-    (there (h .before .before)) (hint-here h) _ (c .enum-told .given .1) (put .put-stop .ensures)
+    going-refused (l .loop .inv) (h .at .result .hint) (there (h .before .before)) (hint-here h) _ (c .enum-told .given .1)
+    (put .put-stop .ensures)
 
 waypoint-of-requires : tie.Need-waypoint-of-requires Inv-loop μ-loop
 waypoint-of-requires c κs = search needs
 
 add-at : tie.Need-add-at Inv-loop μ-loop
-add-at c =
-    let l = c .before .before .before .before .before .before .before .before .before .before .before .before in
-    let g = l .loop .inv in
-    let n = l .before .before in
-    omega (arith, few n, g .place, g .counted, n .before .before .before .pre)
+add-at c = omega (arith, low (c .before .before .before .before .before .before .before .before .before .before .before))
 
 add-k : tie.Need-add-k Inv-loop μ-loop
 add-k c = omega arith
@@ -118,11 +115,10 @@ loop-again c =
     let put = c .before .before .before .before .before .before in
     let h = put .before .before .before in
     let l = h .before .before .before in
-    let a = l .before .before .before .before .before .args in
     let sum = c .before .before .stop .given in
     rw (c .waypoint-of .ensures)
-    (going-on (a .trip) (held (a .hints)) (linksIn (a .t3)) (a .out .now) (a .row) (l .loop .inv) (h .at .result .hint)
-    (there (h .before .before)) (hint-here h) (sum .0 .0) (sum .1) (put .put-stop .ensures))
+    (going-on (l .loop .inv) (h .at .result .hint) (there (h .before .before)) (hint-here h) (sum .0 .0) (sum .1)
+    (put .put-stop .ensures))
 
 put-end-requires : tie.Need-put-end-requires Inv-loop μ-loop
 put-end-requires c κs = search needs
@@ -131,17 +127,14 @@ same-length-2 : tie.Need-same-length-2 Inv-loop μ-loop
 same-length-2 c =
     let put = c .before .before in
     let l = put .before .before .before in
-    let a = l .before .before .before .before .before .args in
-    put .put-end .ensures .long ∙ going-long (a .trip) (held (a .hints)) (linksIn (a .t3)) (a .out .now) (a .row) (l .loop .inv)
+    put .put-end .ensures .long ∙ going-long (l .loop .inv)
 
 returns-2 : tie.Need-returns-2 Inv-loop μ-loop
 returns-2 c =
     let put = c .before .before in
     let l = put .before .before .before in
     let n = l .before .before in
-    let a = n .before .before .before .args in
-    going-end (a .trip) (held (a .hints)) (linksIn (a .t3)) (a .out .now) (a .row) (l .loop .inv) (omega (arith, n .len .ensures))
-    (put .put-end .ensures)
+    going-end (l .loop .inv) (omega (arith, n .len .ensures)) (put .put-end .ensures)
 
 pub build-spec : {M : Type 1} → statement M
 build-spec =

@@ -1,8 +1,8 @@
 -- `plans::building::hold_after` meets its contract: the wait and the sum are the definition's, and so are its refusals.
 -- Assumes nothing.
 use mathlib.Core.Path.{sym, _∙_}
-use Rattle.plans.specs.Path.{holdAfter}
 use borrow.Author.Needs.{needs}
+use Rattle.plans.specs.Path.{holdAfter}
 use Rattle.plans.proofs.building.hold_after.Statement.{statement}
 use Rattle.plans.proofs.building.hold_after.Tie as tie
 

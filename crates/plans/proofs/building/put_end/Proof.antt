@@ -1,12 +1,12 @@
 -- `plans::building::put_end` meets its contract: a row for the move to the goal, or the refusal of its time.
 -- Assumes nothing.
 use mathlib.Core.Path.{_≡_, sym, _∙_}
+use borrow.Author.Needs.{needs}
 use Rattle.shapes.specs.Leg.{placeOf}
 use Rattle.ways.specs.Travel.{reachedFrom}
 use Rattle.plans.specs.Path.{ended}
 use Rattle.plans.specs.declared.action.SafeAction.the-variants.{Move}
 use Rattle.plans.proofs.Left.{one-row, put-nothing, put-rows}
-use borrow.Author.Needs.{needs}
 use Rattle.plans.proofs.building.put_end.Statement.{statement}
 use Rattle.plans.proofs.building.put_end.Tie as tie
 

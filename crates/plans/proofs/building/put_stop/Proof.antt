@@ -1,10 +1,10 @@
--- `plans::building::put_stop` meets its contract: a row for the move and one for the wait, or the refusal of a time or of the hold.
+-- `plans::building::put_stop` meets its contract: a row each for the move and the wait, or a refusal.
 -- Assumes nothing.
 use mathlib.Core.Path.{sym, _∙_}
+use borrow.Author.Needs.{needs}
 use Rattle.plans.specs.Path.{stopped}
 use Rattle.plans.specs.declared.action.SafeAction.the-variants.{Move, Wait}
 use Rattle.plans.proofs.Left.{two-rows, put-nothing, put-rows}
-use borrow.Author.Needs.{needs}
 use Rattle.plans.proofs.building.put_stop.Statement.{statement}
 use Rattle.plans.proofs.building.put_stop.Tie as tie
 
@@ -70,8 +70,8 @@ returns-3 c =
       sym (h .hold-after .ensures) ∙ held .held .given .1,
     )
     (put-rows _ _
-    (two-rows (a .out .now) (a .row) (Move (w .arrival2 .given .0 .0)) (Wait (hint .obstacle) (hint .until)) (first .put-action .ensures)
-    (second .put-action2 .ensures)))
+    (two-rows (a .out .now) (a .row) (Move (w .arrival2 .given .0 .0)) (Wait (hint .obstacle) (hint .until))
+    (first .put-action .ensures) (second .put-action2 .ensures)))
 
 pub put-stop-spec : {M : Type 1} → statement M
 put-stop-spec =

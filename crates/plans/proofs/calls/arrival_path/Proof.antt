@@ -2,14 +2,13 @@
 -- Assumes nothing.
 use mathlib.Core.Path.{_≡_, sym, _∙_}
 use mathlib.Core.Bool.{_&&_}
+use borrow.Author.Needs.{needs}
 use Rattle.shapes.specs.Domain.{isTime}
-use Rattle.shapes.specs.declared.domain.Examined.the-variants.{Fine}
 use Rattle.obstacles.specs.Lent.{lentOf}
 use Rattle.obstacles.specs.Examined.{agentExamined}
 use Rattle.obstacles.proofs.Shaped.{fine-starts}
 use Rattle.plans.specs.Asked.{isBudget, withNumbers, withLent, askedPath, pathOutcome}
 use Rattle.plans.proofs.Fine.{numbers-fine, lent-fine}
-use borrow.Author.Needs.{needs}
 use Rattle.plans.proofs.calls.arrival_path.Statement.{statement}
 use Rattle.plans.proofs.calls.arrival_path.Tie as tie
 
@@ -91,7 +90,8 @@ unfolding askedPath pathOutcome
 returns-2 c =
     let refused = c .before .before .before .before .before in
     let input = refused .before .before in
-    rw (← input .before .before .before .before .lent-hints .ensures, input-found input ∙ refused .input .given .1) (c .before .before .refuse .ensures)
+    rw (← input .before .before .before .before .lent-hints .ensures, input-found input ∙ refused .input .given .1)
+    (c .before .before .refuse .ensures)
 
 same-length-3 : tie.Need-same-length-3
 same-length-3 c = search needs

@@ -1,21 +1,20 @@
--- `plans::calls::give_path` meets its contract: the row of the path and those of its actions, a row for none, or the refusal.
+-- `plans::calls::give_path` meets its contract: a row for the path or for none, those of its actions, or the refusal.
 -- Assumes nothing.
 use Prim.Native.Nat.{ℕ, _≤_}
 use mathlib.Core.Path.{_≡_, sym, ap, _∙_}
 use native.Mathlib.Omega.{arith}
-use lib.ListN.{length}
+use borrow.Author.Needs.{needs}
 use Rattle.numbers.specs.Word.{wordOf}
-use Rattle.numbers.proofs.ReadBack.{read-back}
 use Rattle.numbers.specs.declared.time.Duration.{Duration}
+use Rattle.numbers.proofs.ReadBack.{read-back}
+use Rattle.ranking.specs.Hints.{held}
 use Rattle.obstacles.specs.Lent.{lentOf, obstaclesWith}
 use Rattle.obstacles.specs.Boxes.{boxIn}
-use Rattle.ranking.specs.Hints.{held}
 use Rattle.plans.specs.Path.{Sought, pathFor}
 use Rattle.plans.specs.declared.arrival_path.Found.the-variants as F
 use Rattle.plans.proofs.Known.{actionsIn, path-is, path-counts}
 use Rattle.plans.proofs.Short.{path-short}
 use Rattle.plans.proofs.Given.{given-refused, given-missing, given-path}
-use borrow.Author.Needs.{needs}
 use Rattle.plans.proofs.calls.give_path.Statement.{statement}
 use Rattle.plans.proofs.calls.give_path.Tie as tie
 
@@ -51,13 +50,15 @@ few : (c : tie.After-compute-safe-arrival-path) (many pops : ℕ) (hold : Durati
     c .compute-safe-arrival-path .result ≡ F.Path many pops hold → many ≤ 129
 few c many pops hold e =
     let a = c .before .before .before .before .before .before .before .before .args in
-    let os = obstaclesWith (lentOf (a .starts .now) (a .numbers .now) (a .times .now) (a .xs .now) (a .ys .now)) (boxIn (a .boxes .now)) in
+    let lent = lentOf (a .starts .now) (a .numbers .now) (a .times .now) (a .xs .now) (a .ys .now) in
+    let os = obstaclesWith lent (boxIn (a .boxes .now)) in
     let path : Sought = pathFor (a .trip) os (held (a .hints)) (a .budget) (a .arrival) in
     let found = sym (c .compute-safe-arrival-path .ensures .found) ∙ e in
+    let is = path-is path many pops hold found in
     omega (
       arith,
       path-counts path many pops hold found,
-      path-short (a .trip) os (held (a .hints)) (a .budget) (a .arrival) (actionsIn path) pops hold (path-is path many pops hold found),
+      path-short (a .trip) os (held (a .hints)) (a .budget) (a .arrival) (actionsIn path) pops hold is,
     )
 
 add-settle : tie.Need-add-settle
@@ -74,7 +75,8 @@ same-length c = search needs
 returns : tie.Need-returns
 returns c =
     let found = c .before .before .before .before .before in
-    given-refused (found .before .before .before .before .compute-safe-arrival-path .ensures) _ (found .found .given .1) (c .before .before .refuse .ensures)
+    given-refused (found .before .before .before .before .compute-safe-arrival-path .ensures) _ (found .found .given .1)
+    (c .before .before .refuse .ensures)
 
 same-length-2 : tie.Need-same-length-2
 same-length-2 c = search needs

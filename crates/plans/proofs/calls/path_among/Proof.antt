@@ -1,11 +1,11 @@
--- `plans::calls::path_among` meets its contract: 128 doubles have room for the boxes of 32 obstacles; or the refusal of the line.
+-- `plans::calls::path_among` meets its contract: 128 doubles have room for the boxes of 32 obstacles.
 -- Assumes nothing.
 use mathlib.Core.Path.{sym, _∙_}
 use native.Mathlib.Omega.{arith}
+use borrow.Author.Needs.{needs}
 use Rattle.obstacles.specs.Lent.{lentOf}
 use Rattle.obstacles.proofs.Filling.{with-boxes}
 use Rattle.plans.specs.Asked.{lonePath, pathOutcome}
-use borrow.Author.Needs.{needs}
 use Rattle.plans.proofs.calls.path_among.Statement.{statement}
 use Rattle.plans.proofs.calls.path_among.Tie as tie
 
