@@ -49,7 +49,18 @@ fn give_path(
     ensures { λ r. ⌜ Handed (pathOutcome (pathFor trip (obstaclesWith (lentOf (now (starts .entry)) (now (numbers .entry)) (now (times .entry)) (now (xs .entry)) (now (ys .entry))) (boxIn (now (boxes .entry)))) (held hints) budget arrival)) (now (out .entry)) (now (out .exit)) r ⌝ }
 {
     let found = arrival_path::compute_safe_arrival_path(
-        trip, arrival, hints, budget, starts, numbers, times, xs, ys, boxes, out, 1,
+        trip,
+        arrival,
+        hints,
+        budget,
+        starts,
+        numbers,
+        times,
+        xs,
+        ys,
+        boxes,
+        out,
+        1,
     );
     match found {
         Found::Refused(n) => words::refuse(out, n),
@@ -94,7 +105,17 @@ fn path_among(
                 speed: scale.speed,
             };
             give_path(
-                trip, arrival, hints, budget, starts, numbers, times, xs, ys, &boxes, out,
+                trip,
+                arrival,
+                hints,
+                budget,
+                starts,
+                numbers,
+                times,
+                xs,
+                ys,
+                &boxes,
+                out,
             )
         }
     }
@@ -127,7 +148,17 @@ pub fn arrival_path(
                 return words::refuse(out, 4);
             }
             path_among(
-                p, agent, arrival, budget, list, starts, numbers, times, xs, ys, out,
+                p,
+                agent,
+                arrival,
+                budget,
+                list,
+                starts,
+                numbers,
+                times,
+                xs,
+                ys,
+                out,
             )
         }
     }
