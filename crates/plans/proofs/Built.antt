@@ -2,13 +2,13 @@
 -- Assumes nothing.
 use Prim.Native.Nat.{ℕ, suc, _+_, _*_, _≤_, _<_}
 use mathlib.Core.Path.{_≡_, refl, sym, ap, subst, _∙_}
-use mathlib.Core.List.{List, [], _++_, append-assoc, map-append}
+use mathlib.Core.List.{List, [], _++_, append-assoc}
 use native.Mathlib.Numerals.{add-one}
 use native.Mathlib.Omega.{arith}
-use lib.ListN.{length, drop, getD, length-append, length-map, drop-of-length-le}
+use lib.ListN.{length, drop, getD, length-append, drop-of-length-le}
 use lib.Seq.{drop-cons}
 use Rattle.lists.specs.Rows.{withRows}
-use Rattle.lists.proofs.Fours.{rows-append, length-rows}
+use Rattle.lists.proofs.Fours.{length-rows}
 use Rattle.numbers.specs.declared.time.Duration.{Duration}
 use Rattle.shapes.specs.declared.waypoint.Waypoint.{Waypoint}
 use Rattle.waits.specs.declared.hint.WaitHint.{WaitHint}
@@ -22,7 +22,7 @@ use Rattle.plans.specs.Laid.{Put, holdOf}
 use Rattle.plans.specs.declared.action.SafeAction.{SafeAction}
 use Rattle.plans.specs.declared.building.Hold.{Hold}
 use Rattle.plans.specs.declared.building.Hold.the-variants as H
-use Rattle.plans.proofs.Rowed.{actions-fours}
+use Rattle.plans.proofs.Rowed.{actions-fours, rows-behind}
 use Rattle.plans.proofs.Known.{actionsOf, held-is, unheld-is}
 use Rattle.plans.proofs.Counted.{Counts, stopped-counts}
 
@@ -41,13 +41,6 @@ hold-before done (Refused n) = refl
 
 refused-on : (b : Built) (go : Duration → Built) (n : ℕ) → b ≡ Refused n → andOn b go ≡ b
 refused-on b go n e = rw e
-
--- Rows of actions behind others.
-behind : (lent : List ℕ) (row : ℕ) (done more : List SafeAction) →
-    withRows (withRows lent row (actionRows done)) (row + length done) (actionRows more) ≡
-    withRows lent row (actionRows (done ++ more))
-behind lent row done more =
-    rw (map-append actionWords done more, rows-append lent row (actionRows done) (actionRows more), length-map)
 
 -- What is built of a whole chain, and from link k on.
 abbrev wholeOf : Trip → List RankedHint → List ℕ → Built
@@ -92,7 +85,7 @@ module _
 
     more-rows : {left' : List ℕ} (more : List SafeAction) →
         left' ≡ withRows left at (actionRows more) → left' ≡ withRows lent row (actionRows (g .done ++ more))
-    more-rows more e = e ∙ rw (g .rows, g .place) (behind lent row (g .done) more)
+    more-rows more e = e ∙ rw (g .rows, g .place) (rows-behind actionWords lent row (g .done) more)
 
     -- What is put behind the rows so far, where the whole is those and that.
     rows-of : {left' : List ℕ} (b : Built) → whole ≡ before (g .done) b →

@@ -2,15 +2,14 @@
 -- Assumes nothing.
 use Prim.Native.Nat.{ℕ, _+_, _*_, _≤_, _<_}
 use mathlib.Core.Path.{_≡_, refl, sym, ap, _∙_}
-use mathlib.Core.List.{List, [], _∷_, _++_, append-assoc, append-nil, map-append}
-use native.Mathlib.Nat.{zero-add}
+use mathlib.Core.List.{List, [], _∷_, _++_, append-assoc, append-nil}
 use native.Mathlib.Numerals.{add-one}
 use native.Mathlib.Omega.{arith}
 use lib.IntN.{ℤ, pos}
-use lib.ListN.{length, take, getD, length-append, length-map, length-take, drop-of-length-le}
+use lib.ListN.{length, take, getD, length-append, length-take, drop-of-length-le}
 use lib.Seq.{slice, slice-cons}
 use Rattle.lists.specs.Rows.{withRow, withRows}
-use Rattle.lists.proofs.Fours.{fours-map, length-rows, rows-one, rows-append}
+use Rattle.lists.proofs.Fours.{fours-map, length-rows, rows-one}
 use Rattle.numbers.specs.Word.{wordOf}
 use Rattle.numbers.specs.declared.time.Duration.{Duration}
 use Rattle.numbers.specs.declared.time.TimePoint.{TimePoint}
@@ -26,7 +25,7 @@ use Rattle.plans.specs.declared.action.SafeAction.{SafeAction}
 use Rattle.plans.specs.declared.arrival_path.Found.{Found}
 use Rattle.plans.specs.declared.arrival_path.Found.the-variants as F
 use Rattle.plans.specs.declared.linear_paths.Paths.the-variants as R
-use Rattle.plans.proofs.Rowed.{actions-fours}
+use Rattle.plans.proofs.Rowed.{actions-fours, rows-behind}
 use Rattle.plans.proofs.Known.{actionsIn, path-is, path-counts, missing-is, refused-is}
 use Rattle.plans.proofs.Short.{path-short}
 
@@ -63,14 +62,8 @@ actions-long lent actions = length-rows lent 0 (actionRows actions) (actions-fou
 row-last : (lent : List ℕ) (done : List Path) (p : Path) →
     withRow (withRows lent 1 (pathRows done)) (1 + length done) (pathWords p) ≡ withRows lent 1 (pathRows (done ++ (p ∷ [])))
 row-last lent done p =
-    rw (map-append pathWords done (p ∷ []), rows-append lent 1 (pathRows done) (pathWords p ∷ []), length-map)
-    (sym (rows-one (withRows lent 1 (pathRows done)) (1 + length done) (pathWords p)))
-
-actions-behind : (lent : List ℕ) (done more : List SafeAction) →
-    withRows (withRows lent 0 (actionRows done)) (length done) (actionRows more) ≡ withRows lent 0 (actionRows (done ++ more))
-actions-behind lent done more =
-    let at : 0 + length (actionRows done) ≡ length done = zero-add (length (actionRows done)) ∙ length-map done actionWords in
-    rw (map-append actionWords done more, rows-append lent 0 (actionRows done) (actionRows more), at)
+    sym (rows-one (withRows lent 1 (pathRows done)) (1 + length done) (pathWords p)) ∙
+    rows-behind pathWords lent 1 done (p ∷ [])
 
 module _ (trip : Trip) (os : List Obstacle) (hints : List RankedHint) (budget : ℕ) (list : List ℤ) (count : ℕ) where
   -- The paths for all arrival times, and for those from the one at i on.
@@ -220,6 +213,7 @@ module _ {trip : Trip} {os : List Obstacle} {hints : List RankedHint} {budget : 
           let longer = length-append (k .done) (this ∷ []) in
           let last : allActions (k .done ++ (this ∷ [])) ≡ allActions (k .done) ++ these = actions-last (k .done) this in
           let more = length-append (allActions (k .done)) these in
+          let at : row ≡ 0 + length (allActions (k .done)) = omega (arith, k .listed) in
           record {
             done = k .done ++ (this ∷ []);
             on = goes is ∙ behind-first (k .done) this onward;
@@ -228,7 +222,7 @@ module _ {trip : Trip} {os : List Obstacle} {hints : List RankedHint} {budget : 
             rows = put ∙ rw (k .rows, ← k .counted, counts) (row-last lent (k .done) this);
             action-rows =
                 p .rows these pops hold is ∙
-                rw (last, k .action-rows, ← k .listed) (actions-behind lentActions (allActions (k .done)) these);
+                rw (last, k .action-rows, at) (rows-behind actionWords lentActions 0 (allActions (k .done)) these);
             fewer = omega arith;
             few = omega arith;
           }
