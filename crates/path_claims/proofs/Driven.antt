@@ -1,0 +1,71 @@
+-- All that the agent drives in a path by way of hints was tested and is safe (RULES 13.3, 13.10, 13.16, 13.23).
+-- Assumes nothing.
+use Prim.Native.Nat.{ℕ, _≤_}
+use mathlib.Core.Path.{_≡_, sym, ap}
+use mathlib.Core.List.{List, [], _∷_}
+use mathlib.Core.Option.{Option}
+use lib.ListN.{length, getD}
+use Rattle.numbers.specs.declared.time.Duration.{Duration}
+use Rattle.shapes.specs.declared.waypoint.Waypoint.{Waypoint}
+use Rattle.obstacles.specs.Obstacle.{Obstacle}
+use Rattle.waits.specs.declared.hint.WaitHint.{WaitHint}
+use Rattle.ranking.specs.Hints.{blank}
+use Rattle.ranking.specs.declared.order.RankedHint.{RankedHint}
+use Rattle.chains.specs.Answer.{Way}
+use Rattle.chains.specs.Handed.{chainOf, linksIn}
+use Rattle.chains.proofs.Links.{way-back}
+use Rattle.ways.specs.Travel.{waypointOf}
+use Rattle.ways.specs.declared.trip.Trip.{Trip}
+use Rattle.paths.specs.Trying.{stopIn, toParent, startsAt, reaches, chainFrom}
+use Rattle.plans.specs.Path.{Of, built, hintsAt, unheld}
+use Rattle.plans.specs.declared.action.SafeAction.{SafeAction}
+use Rattle.path_claims.specs.Driven.{still, SafeFrom}
+use Rattle.path_claims.proofs.Chain.{Leads, begun}
+use Rattle.path_claims.proofs.Parts.{Stop, SafeStop, stop, arrived, reached-there, end-passed, start-passed, goal-passed}
+use Rattle.path_claims.proofs.Searched.{safe-way}
+
+module _ (trip : Trip) (os : List Obstacle) (hints : List RankedHint) where
+  abbrev Safe : Waypoint → List SafeAction → Type 0
+  Safe = SafeFrom trip os
+
+  abbrev hintAt : ℕ → WaitHint
+  hintAt i = getD hints i blank .hint
+
+  -- A stop of the path, and what is driven behind it.
+  safe-stop : {from : Waypoint} {h : WaitHint} {hs : List WaitHint} {actions : List SafeAction} {hold : Duration} →
+      (s : Stop trip from h hs actions hold) → SafeStop trip os from (s .arrival) h → Safe (waypointOf h) (s .rest) →
+      Safe from actions
+  unfolding waypointOf
+  safe-stop {from} {h} s safe rest =
+      let stands : waypointOf h ≡ still (s .arrival) (h .until) =
+      ap (λ (v : Waypoint). still v (h .until)) (sym (reached-there (trip .speed) from (h .place) (s .reached))) in
+      rw (s .same) (safe .way, (rw stands at (safe .wait), rw stands at rest))
+
+  -- From a hint by way of others to the goal.
+  safe-behind : (i : ℕ) (l : List ℕ) (start : Duration) {actions : List SafeAction} {hold : Duration} →
+      Leads (toParent trip os hints) (startsAt trip os hints) (reaches hints) i l →
+      built trip (stopIn hints i) start (hintsAt hints l) ≡ Of actions hold → Safe (stopIn hints i) actions
+  unfolding hintsAt toParent stopIn
+  safe-behind i [] start goal made =
+      let a = arrived trip (stopIn hints i) start made in
+      rw (a .same) (goal-passed trip os (stopIn hints i) goal (a .reached))
+  safe-behind i (j ∷ l) start leads made =
+      let s = stop trip (stopIn hints i) start (hintAt j) (hintsAt hints l) made in
+      safe-stop s (end-passed trip os (stopIn hints i) (hintAt j) (leads .0) (s .reached))
+      (safe-behind j l (s .sum) (leads .1) (s .behind))
+
+  -- From the start along a chain that was found, among at most 64 hints.
+  pub driven : (budget : ℕ) (first : Option ℕ) {links : List ℕ} {pops : ℕ} {actions : List SafeAction} {hold : Duration} →
+      length hints ≤ 64 → chainFrom trip os hints budget first ≡ Way links pops →
+      built trip (trip .leg .start) unheld (hintsAt hints (linksIn (chainOf links))) ≡ Of actions hold →
+      SafeFrom trip os (trip .leg .start) actions
+  unfolding chainFrom hintsAt startsAt stopIn
+  driven budget first {links} {pops} few found made =
+      let b = begun (toParent trip os hints) (startsAt trip os hints) (reaches hints)
+      (safe-way trip os hints budget first found) in
+      let whole = way-back (toParent trip os hints) (startsAt trip os hints) (reaches hints) budget (length hints) first links pops few
+      found in
+      let h : WaitHint = hintAt (b .first) in
+      let s = stop trip (trip .leg .start) unheld h (hintsAt hints (b .rest)) (rw (whole, b .links) at made) in
+      safe-stop s (start-passed trip os h (b .started) (s .reached) .safe)
+      (safe-behind (b .first) (b .rest) (s .sum) (b .leads) (s .behind))

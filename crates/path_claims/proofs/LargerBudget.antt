@@ -1,0 +1,171 @@
+-- A larger budget changes no path and no plan but one that is refused 11 (RULES 13.21, 13.22).
+-- Assumes nothing.
+use Prim.Native.Nat.{ℕ, _≤_}
+use mathlib.Core.Path.{_≡_, refl, sym, ap, _∙_}
+use mathlib.Core.Logic.{_≢_}
+use mathlib.Core.Bool.{Bool, true, false, cond, true≢false}
+use mathlib.Core.List.{List, [], _∷_}
+use mathlib.Core.Option.{Option}
+use native.Mathlib.Omega.{arith}
+use borrow.Author.Tests.{eqb-true, leb-true, le-leb}
+use lib.Dec.{eqb}
+use lib.ListN.{length}
+use Rattle.numbers.specs.declared.time.Duration.{Duration}
+use Rattle.numbers.specs.declared.time.TimePoint.{TimePoint}
+use Rattle.shapes.specs.Box.{boxOfLeg}
+use Rattle.shapes.specs.Leg.{isBrief}
+use Rattle.shapes.specs.declared.domain.Examined.{Examined}
+use Rattle.shapes.specs.declared.domain.Examined.the-variants as X
+use Rattle.shapes.specs.declared.profile.CircularProfile.{CircularProfile}
+use Rattle.shapes.specs.declared.waypoint.Leg.{Leg}
+use Rattle.obstacles.specs.Examined.{agentExamined}
+use Rattle.obstacles.specs.Lent.{Lent, obstaclesOf}
+use Rattle.obstacles.specs.Obstacle.{Obstacle}
+use Rattle.ranking.specs.Hints.{held}
+use Rattle.ranking.specs.declared.order.RankedHint.{RankedHint}
+use Rattle.ranking.specs.declared.ranked_hints.RankedHints.{RankedHints}
+use Rattle.hints.specs.Contour.{scaleOf, rankedHints}
+use Rattle.hints.specs.declared.contour.Scale.{Scale}
+use Rattle.hints.specs.declared.contour.Scaling.{Scaling}
+use Rattle.hints.specs.declared.contour.Scaling.the-variants as L
+use Rattle.arrivals.specs.Search as A
+use Rattle.search.specs.Watched.{arrivalsAt}
+use Rattle.chains.specs.Answer as N
+use Rattle.chains.specs.Answer.{Answer, isSpent}
+use Rattle.chains.specs.Handed.{firstOf, answered}
+use Rattle.chains.specs.declared.trial.Trial.{Trial}
+use Rattle.chains.specs.declared.trial.Trial.the-variants as T
+use Rattle.ways.specs.Roots.{goalContour, firstRoot}
+use Rattle.ways.specs.Tests.{straight}
+use Rattle.ways.specs.declared.roots.Contour.{Contour}
+use Rattle.ways.specs.declared.roots.Contour.the-variants as C
+use Rattle.ways.specs.declared.trip.Trip.{Trip}
+use Rattle.paths.specs.Trying.{chainFrom}
+use Rattle.plans.specs.Asked.{isBudget, withNumbers, askedPlan}
+use Rattle.plans.specs.Path as P
+use Rattle.plans.specs.Path.{Sought, taken, contoured, byHints, pathFor}
+use Rattle.plans.specs.Plan as Q
+use Rattle.plans.specs.Plan.{Path, Paths, Plan, first, sought, scaled, timed, planned, tripOf, pathsFor}
+use Rattle.plans.specs.Plan.{pathsPlanned, timesPlanned, hintsPlanned, longPlan, planOf}
+use Rattle.path_claims.proofs.Searched.{same-answer}
+
+module _ (small large : ℕ) (le : small ≤ large) where
+  module _ (trip : Trip) (os : List Obstacle) (hints : List RankedHint) where
+    -- ---- A path.
+
+    spent-told : (a : Answer) → isSpent a ≡ true → taken trip hints (answered a) ≡ P.Refused 11
+    unfolding taken
+    spent-told (N.Way links pops) e = absurd (true≢false (sym e))
+    spent-told (N.NoWay pops) e = absurd (true≢false (sym e))
+    spent-told (N.Refused n pops) e = ap P.Refused (eqb-true n 11 e)
+
+    same-taken : (first : Option ℕ) → taken trip hints (answered (chainFrom trip os hints small first)) ≢ P.Refused 11 →
+        taken trip hints (answered (chainFrom trip os hints large first)) ≡
+        taken trip hints (answered (chainFrom trip os hints small first))
+    same-taken first kept = by (isSpent (chainFrom trip os hints small first)) refl
+      where
+        by : (spent : Bool) → isSpent (chainFrom trip os hints small first) ≡ spent →
+            taken trip hints (answered (chainFrom trip os hints large first)) ≡
+            taken trip hints (answered (chainFrom trip os hints small first))
+        by true spent = absurd (kept (spent-told (chainFrom trip os hints small first) spent))
+        by false left = rw (same-answer trip os hints small large le first left)
+
+    same-by-hints : (t : TimePoint) → byHints trip os hints small t ≢ P.Refused 11 →
+        byHints trip os hints large t ≡ byHints trip os hints small t
+    unfolding byHints
+    same-by-hints t = by (eqb (length hints) 0) (goalContour trip t)
+      where
+        found : ℕ → Duration → Sought
+        found budget goal = taken trip hints (answered (chainFrom trip os hints budget (firstOf (firstRoot goal hints))))
+
+        by : (none : Bool) (c : Contour) → cond none (P.Missing 0) (contoured c (found small)) ≢ P.Refused 11 →
+            cond none (P.Missing 0) (contoured c (found large)) ≡ cond none (P.Missing 0) (contoured c (found small))
+        by true c kept = refl
+        by false (C.Of goal) kept = same-taken (firstOf (firstRoot goal hints)) kept
+        by false (C.Refused n) kept = refl
+
+    pub same-path : (t : TimePoint) → pathFor trip os hints small t ≢ P.Refused 11 →
+        pathFor trip os hints large t ≡ pathFor trip os hints small t
+    unfolding pathFor
+    same-path t kept = by (straight trip os t) refl
+      where
+        by : (s : Trial) → straight trip os t ≡ s → pathFor trip os hints large t ≡ pathFor trip os hints small t
+        by T.Passed e = rw e
+        by T.Failed e = rw e (same-by-hints t (rw e at kept))
+        by (T.Refused n) e = rw e
+
+    -- ---- Paths.
+
+    same-sought : (s : Sought) (t : TimePoint) (few many : Paths) → sought s t (λ _. few) ≢ Q.Refused 11 →
+        (few ≢ Q.Refused 11 → many ≡ few) → sought s t (λ _. many) ≡ sought s t (λ _. few)
+    same-sought (P.Path actions pops hold) t few many kept same =
+        let q : Path = record { arrival = t; pops = pops; hold = hold; actions = actions } in
+        ap (first q) (same (λ e. kept (ap (first q) e)))
+    same-sought (P.Missing pops) t few many kept same = same kept
+    same-sought (P.Refused n) t few many kept same = refl
+
+    same-paths : (ts : List TimePoint) → pathsFor trip os hints small ts ≢ Q.Refused 11 →
+        pathsFor trip os hints large ts ≡ pathsFor trip os hints small ts
+    unfolding pathsFor
+    same-paths [] kept = refl
+    same-paths (t ∷ ts) kept =
+        let few : Paths = pathsFor trip os hints small ts in
+        let many : Paths = pathsFor trip os hints large ts in
+        ap (λ (s : Sought). sought s t (λ _. many)) (same-path t (λ e. kept (ap (λ (s : Sought). sought s t (λ _. few)) e))) ∙
+        same-sought (pathFor trip os hints small t) t few many kept (same-paths ts)
+
+  -- ---- A plan.
+
+  fits : isBudget large ≡ true → isBudget small ≡ true
+  unfolding isBudget
+  fits within = let most : large ≤ 65535 = leb-true large 65535 within in le-leb small 65535 (omega arith)
+
+  module _ (p : CircularProfile) (agent : Leg) where
+    same-long : (os : List Obstacle) → longPlan p agent small os ≢ Q.Refused 11 →
+        longPlan p agent large os ≡ longPlan p agent small os
+    unfolding longPlan hintsPlanned timesPlanned pathsPlanned
+    same-long os = by (scaleOf agent)
+      where
+        found : ℕ → Scale → List RankedHint → List TimePoint → ℕ → Plan
+        found budget scale hints list n = pathsPlanned (tripOf p agent scale) os hints budget list n
+
+        in-times : (scale : Scale) (hints : List RankedHint) (a : A.Answer) →
+            timed a (found small scale hints) ≢ Q.Refused 11 → timed a (found large scale hints) ≡ timed a (found small scale hints)
+        in-times scale hints (A.Answered list n) kept =
+            ap (planned (length hints) (length list) n)
+            (same-paths (tripOf p agent scale) os hints list (λ e. kept (ap (planned (length hints) (length list) n) e)))
+        in-times scale hints (A.Refused n) kept = refl
+        in-times scale hints A.Unfinished kept = refl
+
+        in-hints : (scale : Scale) (list : RankedHints) (none : Bool) →
+            let few = timed (arrivalsAt p (agent .end) os) (found small scale (held list)) in
+            let many = timed (arrivalsAt p (agent .end) os) (found large scale (held list)) in
+            cond none few (Q.Refused (list .refused)) ≢ Q.Refused 11 →
+            cond none many (Q.Refused (list .refused)) ≡ cond none few (Q.Refused (list .refused))
+        in-hints scale list true kept = in-times scale (held list) (arrivalsAt p (agent .end) os) kept
+        in-hints scale list false kept = refl
+
+        by : (s : Scaling) → scaled s (λ scale. hintsPlanned (tripOf p agent scale) os os small) ≢ Q.Refused 11 →
+            scaled s (λ scale. hintsPlanned (tripOf p agent scale) os os large) ≡
+            scaled s (λ scale. hintsPlanned (tripOf p agent scale) os os small)
+        by (L.By scale) kept =
+            let own : RankedHints = rankedHints p agent (boxOfLeg (p .footprint) agent) os in
+            in-hints scale own (eqb (own .refused) 0) kept
+        by (L.Refused n) kept = refl
+
+    same-planned : (os : List Obstacle) → planOf p agent small os ≢ Q.Refused 11 → planOf p agent large os ≡ planOf p agent small os
+    unfolding planOf
+    same-planned os kept = by (isBrief agent) refl
+      where
+        by : (brief : Bool) → isBrief agent ≡ brief → planOf p agent large os ≡ planOf p agent small os
+        by true e = rw e
+        by false e = rw e (same-long os (rw e at kept))
+
+    pub same-plan : (lent : Lent) → isBudget large ≡ true → askedPlan p agent small lent ≢ Q.Refused 11 →
+        askedPlan p agent large lent ≡ askedPlan p agent small lent
+    unfolding askedPlan withNumbers
+    same-plan lent within kept = by (agentExamined p agent lent) refl
+      where
+        by : (x : Examined) → agentExamined p agent lent ≡ x → askedPlan p agent large lent ≡ askedPlan p agent small lent
+        by X.Fine e = rw (within, fits within, e) (same-planned (obstaclesOf lent) (rw (fits within, e) at kept))
+        by (X.Refused n) e = rw (within, fits within, e)

@@ -1,0 +1,13 @@
+pub mod Searched
+pub mod Root
+pub mod Origin
+mod Chain
+mod Parts
+pub mod FirstArrival
+pub mod Driven
+mod InTurn
+mod Calls
+mod Made
+pub mod Whole
+pub mod LargerBudget
+pub mod Marked

@@ -1,0 +1,118 @@
+-- What a plan that is given was made of: the agent's line, hints, arrival times and paths (RULES 5.5 to 5.7, 13.1).
+-- Assumes nothing.
+use Prim.Native.Nat.{ℕ}
+use mathlib.Core.Path.{_≡_, refl, ap, _∙_}
+use mathlib.Core.Bool.{Bool, true, false, cond, true≢false}
+use mathlib.Core.List.{List}
+use borrow.Author.Tests.{eqb-true}
+use lib.Dec.{eqb}
+use lib.ListN.{length}
+use Rattle.numbers.specs.declared.time.TimePoint.{TimePoint}
+use Rattle.shapes.specs.Box.{boxOfLeg}
+use Rattle.shapes.specs.declared.domain.Examined.{Examined}
+use Rattle.shapes.specs.declared.domain.Examined.the-variants as X
+use Rattle.shapes.specs.declared.profile.CircularProfile.{CircularProfile}
+use Rattle.shapes.specs.declared.waypoint.Leg.{Leg}
+use Rattle.obstacles.specs.Examined.{agentExamined}
+use Rattle.obstacles.specs.Lent.{Lent, obstaclesOf}
+use Rattle.obstacles.specs.Obstacle.{Obstacle}
+use Rattle.ranking.specs.Hints.{held}
+use Rattle.ranking.specs.declared.ranked_hints.RankedHints.{RankedHints}
+use Rattle.hints.specs.Contour.{scaleOf, rankedHints}
+use Rattle.hints.specs.declared.contour.Scale.{Scale}
+use Rattle.hints.specs.declared.contour.Scaling.{Scaling}
+use Rattle.hints.specs.declared.contour.Scaling.the-variants as L
+use Rattle.arrivals.specs.Search as A
+use Rattle.search.specs.Watched.{arrivalsAt}
+use Rattle.plans.specs.Asked.{isBudget, withNumbers, askedPlan}
+use Rattle.plans.specs.Plan.{Path, Paths, Of, Planned, Refused, scaled, timed, planned, tripOf, pathsFor}
+use Rattle.plans.specs.Plan.{pathsPlanned, timesPlanned, hintsPlanned, longPlan, planOf}
+
+-- The hints of the agent's leg.
+abbrev pub ownHints : CircularProfile → Leg → List Obstacle → RankedHints
+ownHints p agent os = rankedHints p agent (boxOfLeg (p .footprint) agent) os
+
+pub record Made (p : CircularProfile) (agent : Leg) (budget : ℕ) (os : List Obstacle) (hints times sweeps : ℕ) (ps : List Path) :
+    Type 0 where
+  pub scale : Scale
+  pub line : scaleOf agent ≡ L.By scale
+  pub unrefused : ownHints p agent os .refused ≡ 0
+  pub hint-count : length (held (ownHints p agent os)) ≡ hints
+  pub list : List TimePoint
+  pub arrivals : arrivalsAt p (agent .end) os ≡ A.Answered list sweeps
+  pub time-count : length list ≡ times
+  pub paths : pathsFor (tripOf p agent scale) os (held (ownHints p agent os)) budget list ≡ Of ps
+
+module _ {hints times sweeps : ℕ} {ps : List Path} where
+  not-planned : {n : ℕ} → Refused n ≡ Planned hints times sweeps ps → ⊥
+  not-planned e = true≢false (cc e)
+
+  module _ (p : CircularProfile) (agent : Leg) (budget : ℕ) (os : List Obstacle) where
+    pub made : longPlan p agent budget os ≡ Planned hints times sweeps ps → Made p agent budget os hints times sweeps ps
+    unfolding longPlan hintsPlanned timesPlanned pathsPlanned
+    made = by (scaleOf agent) refl
+      where
+        own : RankedHints
+        own = ownHints p agent os
+
+        found : Scale → List TimePoint → Paths
+        found scale list = pathsFor (tripOf p agent scale) os (held own) budget list
+
+        by-paths : (scale : Scale) → scaleOf agent ≡ L.By scale → own .refused ≡ 0 → (list : List TimePoint) (n : ℕ) →
+            arrivalsAt p (agent .end) os ≡ A.Answered list n → (paths : Paths) → found scale list ≡ paths →
+            planned (length (held own)) (length list) n paths ≡ Planned hints times sweeps ps →
+            Made p agent budget os hints times sweeps ps
+        by-paths scale line unrefused list n arrivals (Of l) paths e =
+            let sweep : n ≡ sweeps = cc e in
+            let all : l ≡ ps = cc e in
+            record {
+              scale = scale;
+              line = line;
+              unrefused = unrefused;
+              hint-count = cc e;
+              list = list;
+              arrivals = arrivals ∙ ap (A.Answered list) sweep;
+              time-count = cc e;
+              paths = paths ∙ ap Of all;
+            }
+        by-paths scale line unrefused list n arrivals (Refused m) paths e = absurd (not-planned e)
+
+        by-times : (scale : Scale) → scaleOf agent ≡ L.By scale → own .refused ≡ 0 → (a : A.Answer) →
+            arrivalsAt p (agent .end) os ≡ a →
+            timed a (λ list n. planned (length (held own)) (length list) n (found scale list)) ≡ Planned hints times sweeps ps →
+            Made p agent budget os hints times sweeps ps
+        by-times scale line unrefused (A.Answered list n) arrivals e =
+            by-paths scale line unrefused list n arrivals (found scale list) refl e
+        by-times scale line unrefused (A.Refused n) arrivals e = absurd (not-planned e)
+        by-times scale line unrefused A.Unfinished arrivals e = absurd (not-planned e)
+
+        by-hints : (scale : Scale) → scaleOf agent ≡ L.By scale → (none : Bool) → eqb (own .refused) 0 ≡ none →
+            cond none (timesPlanned (tripOf p agent scale) os os (held own) budget) (Refused (own .refused)) ≡
+            Planned hints times sweeps ps → Made p agent budget os hints times sweeps ps
+        by-hints scale line true none e =
+            by-times scale line (eqb-true (own .refused) 0 none) (arrivalsAt p (agent .end) os) refl e
+        by-hints scale line false none e = absurd (not-planned e)
+
+        by : (s : Scaling) → scaleOf agent ≡ s →
+            scaled s (λ scale. hintsPlanned (tripOf p agent scale) os os budget) ≡ Planned hints times sweeps ps →
+            Made p agent budget os hints times sweeps ps
+        by (L.By scale) line e = by-hints scale line (eqb (own .refused) 0) refl e
+        by (L.Refused n) line e = absurd (not-planned e)
+
+  -- The input was fine, and the plan is that for the obstacles of the table (RULES 5.1).
+  pub examined : (p : CircularProfile) (agent : Leg) (budget : ℕ) (lent : Lent) →
+      askedPlan p agent budget lent ≡ Planned hints times sweeps ps →
+      (agentExamined p agent lent ≡ X.Fine) × (planOf p agent budget (obstaclesOf lent) ≡ Planned hints times sweeps ps)
+  unfolding askedPlan withNumbers
+  examined p agent budget lent e = by (isBudget budget) refl (agentExamined p agent lent) refl
+    where
+      by-number : (n : ℕ) (two : Bool) → eqb n 2 ≡ two → isBudget budget ≡ false → agentExamined p agent lent ≡ X.Refused n → ⊥
+      by-number n true two over refused = not-planned (rw (over, refused, two) at e)
+      by-number n false two over refused = not-planned (rw (over, refused, two) at e)
+
+      by : (within : Bool) → isBudget budget ≡ within → (x : Examined) → agentExamined p agent lent ≡ x →
+          (agentExamined p agent lent ≡ X.Fine) × (planOf p agent budget (obstaclesOf lent) ≡ Planned hints times sweeps ps)
+      by true within X.Fine fine = (fine, rw (within, fine) at e)
+      by true within (X.Refused n) refused = absurd (not-planned (rw (within, refused) at e))
+      by false over X.Fine fine = absurd (not-planned (rw (over, fine) at e))
+      by false over (X.Refused n) refused = absurd (by-number n (eqb n 2) refl over refused)

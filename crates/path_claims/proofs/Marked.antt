@@ -1,0 +1,98 @@
+-- The marked examples of two legs and of a whole plan hold: each is worked out by the prover (RULES 16.6 to 16.11, 18.10).
+-- Assumes nothing.
+use mathlib.Core.Path.{refl}
+use lib.Ieee
+use Rattle.lists.specs.Listed.{listed, every}
+use Rattle.lists.specs.Rows.{wordsIn, hasRoom}
+use Rattle.floats.specs.Compare.{largerOf, smallerOf, isBetween, sizeOf}
+use Rattle.root.specs.Root.{units, rootOf}
+use Rattle.root.specs.Digits.{wholeRoot, rootPattern}
+use Rattle.numbers.specs.Time.{inReach, spanBetween, spanSum, instantAfter, laterOf, earlierOf, secondsOf, spanOfSeconds}
+use Rattle.numbers.specs.Time.{instantAfterSeconds}
+use Rattle.shapes.specs.Box.{boxOfPoint, incorporating, inflated, boxOfLeg, overlap}
+use Rattle.shapes.specs.Distance.{criticalDistance, criticalDistanceSquared}
+use Rattle.shapes.specs.Domain.{isTime, isCoordinate, isRadius, isLimit, isWaypoint, isLeg, isProfile}
+use Rattle.shapes.specs.Leg.{placeOf, holds, isInside, isBackward, isRising, isBrief}
+use Rattle.shapes.specs.Vector.{sum, difference, scaled, divided, dotOf}
+use Rattle.proximity.specs.Asked.{legsExamined, askedProximity}
+use Rattle.proximity.specs.Motion.{motionAt}
+use Rattle.proximity.specs.Quadratic.{meetingFrom}
+use Rattle.proximity.specs.Proximity.{passage, crossing, longRange, proximityOf}
+use Rattle.conflicts.specs.Asked.{cartsExamined, askedConflict}
+use Rattle.conflicts.specs.Conflict.{closingAt, enteredAt, conflictOf}
+use Rattle.lines.specs.Course.{runOf, courseOf}
+use Rattle.lines.specs.NearLine.{acrossQuadratic, outlasting, pastEnd, spellOf, nearLine}
+use Rattle.lines.specs.Norm.{normOf, directionOf}
+use Rattle.lines.specs.Stationary.{stationaryProximity}
+use Rattle.waits.specs.Hint.{isPlaced}
+use Rattle.waits.specs.Hints as W
+use Rattle.waiting.specs.Crossing.{beforeCrossing, besideLine, crossingWait}
+use Rattle.waiting.specs.Parts.{agentAfter}
+use Rattle.waiting.specs.Standing.{standingWait}
+use Rattle.ranking.specs.Hints as R
+use Rattle.ranking.specs.Ranked.{inserted}
+use Rattle.obstacles.specs.Obstacle.{legsOf, widened, boxOfTrajectory}
+use Rattle.obstacles.specs.Lent.{waypointsOf, boxOf, obstaclesWith, obstaclesOf}
+use Rattle.obstacles.specs.Examined.{tiles, isLaid, isTrajectory, legsInAll, isFew, isShaped, isAllowed, areAllowed, agentExamined}
+use Rattle.hints.specs.Asked.{askedHints}
+use Rattle.hints.specs.Contour.{scaleOf, contourOf, gradeOf, gradedOnto, rankedHints}
+use Rattle.hints.specs.LegHints.{partOf, withPart, withLeg}
+use Rattle.hints.specs.Walk.{gapsOf, nearLeg, withLegs, withObstacle, withObstacles, hintsOf}
+use Rattle.segments.specs.Segment.{isDuring, legVerdict, firstOf, obstacleVerdict, segmentOf}
+use Rattle.arrivals.specs.Legs.{meets, follows}
+use Rattle.arrivals.specs.Search.{legsIn, moving, look, adjust, nextIn, next, soonest, sweep, turn, search, arrivals}
+use Rattle.search.specs.Watched.{standing, nearOf, watchedLegs, watchedAll, arrivalsAt}
+use Rattle.chains.specs.Handed.{chainOf, linksIn}
+use Rattle.chains.specs.Recursive.{recursiveSearch}
+use Rattle.ways.specs.Roots.{lateness, goalContour, below, level, firstRoot}
+use Rattle.ways.specs.Tests.{toEnd, toGoal, waitsAt, fromStart, straight}
+use Rattle.ways.specs.Travel.{waypointOf, reachedFrom}
+use Rattle.ways.specs.Way.{wayOf, bothWays}
+use Rattle.paths.specs.Trying.{stopIn, toParent, startsAt, chainFrom}
+use Rattle.plans.specs.Action.{actionWords}
+use Rattle.plans.specs.Asked.{isBudget, withNumbers, askedPlan}
+use Rattle.plans.specs.Laid.{planNumber, planRoom, actionRoomOf}
+use Rattle.plans.specs.Path.{holdAfter, stopped, ended, built, hintsAt, alongHints, taken, byHints, pathFor}
+use Rattle.plans.specs.Plan.{pathsFor, pathsPlanned, timesPlanned, hintsPlanned, longPlan, shortPlan, planOf, allActions}
+use Rattle.path_claims.specs.Marked.{Marked}
+
+pub marked : Marked
+unfolding askedProximity askedConflict cartsExamined legsExamined askedHints askedPlan withNumbers isBudget agentExamined
+    isShaped isLaid tiles listed every isFew legsInAll isTrajectory areAllowed isAllowed
+    isProfile isRadius isBetween isLeg isWaypoint isTime isCoordinate isLimit isBackward isRising isBrief
+    obstaclesOf obstaclesWith waypointsOf boxOf boxOfTrajectory widened legsOf
+    criticalDistanceSquared criticalDistance largerOf smallerOf sizeOf
+    boxOfPoint incorporating inflated boxOfLeg overlap placeOf sum difference scaled divided dotOf
+    proximityOf longRange meetingFrom motionAt holds isInside crossing passage conflictOf closingAt enteredAt
+    segmentOf obstacleVerdict firstOf legVerdict isDuring
+    runOf courseOf acrossQuadratic outlasting pastEnd spellOf nearLine normOf directionOf stationaryProximity
+    W.refusedBy W.noHints W.held W.isGoing W.withHint W.withWait W.after isPlaced
+    crossingWait besideLine beforeCrossing agentAfter standingWait
+    hintsOf withObstacles withObstacle withLegs nearLeg gapsOf withLeg withPart partOf
+    rankedHints gradedOnto gradeOf contourOf scaleOf R.refusedBy R.noHints R.held R.withRanked inserted
+    arrivalsAt watchedAll watchedLegs standing nearOf
+    arrivals legsIn moving search turn sweep adjust look meets follows soonest next nextIn
+    chainFrom recursiveSearch toParent startsAt stopIn chainOf linksIn
+    straight fromStart waitsAt toGoal toEnd reachedFrom waypointOf wayOf bothWays firstRoot level below goalContour lateness
+    planOf shortPlan longPlan hintsPlanned timesPlanned pathsPlanned pathsFor
+    pathFor byHints taken alongHints hintsAt built ended stopped holdAfter
+    planNumber planRoom actionRoomOf hasRoom wordsIn allActions actionWords
+    rootOf units rootPattern wholeRoot
+    laterOf earlierOf spanBetween spanSum inReach secondsOf instantAfterSeconds spanOfSeconds instantAfter
+    Ieee.ofBits Ieee.ofInt Ieee.add Ieee.sub Ieee.mul Ieee.div Ieee.le Ieee.toSigned Ieee.toBits
+marked =
+    record {
+      p6 = refl;
+      p7 = refl;
+      p8-near = refl;
+      p8 = refl;
+      p9-near = refl;
+      p9 = refl;
+      p10-hints = refl;
+      p10 = refl;
+      p10-number = refl;
+      p10-paths = refl;
+      p10-actions = refl;
+      p10-spent = refl;
+      p10-brief = refl;
+    }

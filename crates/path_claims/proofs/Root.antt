@@ -1,0 +1,42 @@
+-- The hints of a plan are ranked, so that the search begins with the hint that is to be chosen (RULES 13.9).
+-- Assumes nothing.
+use Prim.Native.Nat.{ℕ}
+use mathlib.Core.Path.{_≡_}
+use mathlib.Core.Logic.{⊎-elim}
+use mathlib.Core.Bool.{true, false}
+use Rattle.numbers.specs.declared.time.Duration.{Duration}
+use Rattle.shapes.specs.Box.{boxOfLeg}
+use Rattle.shapes.specs.Leg.{isBrief}
+use Rattle.shapes.specs.declared.domain.Examined.the-variants as X
+use Rattle.shapes.specs.declared.profile.CircularProfile.{CircularProfile}
+use Rattle.shapes.specs.declared.waypoint.Leg.{Leg}
+use Rattle.obstacles.specs.Examined.{agentExamined}
+use Rattle.obstacles.specs.Lent.{Lent, obstaclesOf}
+use Rattle.ranking.specs.Hints.{refusedBy, held}
+use Rattle.ranking.specs.Ranked.{sorted}
+use Rattle.hints.specs.Asked.{askedHints}
+use Rattle.hints.specs.Walk.{hintsOf}
+use Rattle.hints.proofs.Answered.{Refusal, asked-answered}
+use Rattle.chains.specs.declared.trial.First.the-variants.{Missing, Root}
+use Rattle.ways.specs.Roots.{firstRoot}
+use Rattle.ways.proofs.Chosen.{Chosen, AllBelow, sorted-rises, chosen, all-below}
+
+module _ (p : CircularProfile) (agent : Leg) (lent : Lent) (fine : agentExamined p agent lent ≡ X.Fine)
+    (lasts : isBrief agent ≡ false) where
+  hints-sorted : sorted (held (askedHints p agent lent)) ≡ true
+  unfolding held refusedBy sorted
+  hints-sorted = ⊎-elim refused (λ a. a .ranking .in-order) (asked-answered p agent lent fine lasts)
+    where
+      refused : Refusal agent (hintsOf p agent (boxOfLeg (p .footprint) agent) (obstaclesOf lent)) (askedHints p agent lent) →
+          sorted (held (askedHints p agent lent)) ≡ true
+      refused r = rw (r .alone)
+
+  -- The root has the lowest contour that is not below the goal's, and is the last with that contour;
+  pub root-chosen : (goal : Duration) (i : ℕ) → firstRoot goal (held (askedHints p agent lent)) ≡ Root i →
+      Chosen goal (held (askedHints p agent lent)) i
+  root-chosen goal i = chosen goal (held (askedHints p agent lent)) i (sorted-rises (held (askedHints p agent lent)) hints-sorted)
+
+  -- there is none where every contour is below the goal's.
+  pub root-missing : (goal : Duration) → firstRoot goal (held (askedHints p agent lent)) ≡ Missing →
+      AllBelow goal (held (askedHints p agent lent))
+  root-missing goal = all-below goal (held (askedHints p agent lent))

@@ -1,0 +1,4 @@
+pub mod Origin
+pub mod Driven
+pub mod Whole
+pub mod Marked

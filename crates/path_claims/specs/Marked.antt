@@ -1,0 +1,146 @@
+-- The marked examples of two legs, P6 to P9, and of a whole plan, P10 (RULES 16.6 to 16.11), of the calls themselves.
+-- Assumes nothing.
+use Prim.Native.Nat.{ℕ, _*_}
+use mathlib.Core.Path.{_≡_}
+use mathlib.Core.List.{[], _∷_}
+use lib.IntN.{pos}
+use lib.Ieee.{Float, binary64, ofBits}
+use Rattle.numbers.specs.declared.time.Duration.{Duration}
+use Rattle.numbers.specs.declared.time.TimePoint.{TimePoint}
+use Rattle.shapes.specs.declared.profile.CircularProfile.{CircularProfile}
+use Rattle.shapes.specs.declared.waypoint.Leg.{Leg}
+use Rattle.shapes.specs.declared.waypoint.Waypoint.{Waypoint}
+use Rattle.proximity.specs.Asked.{askedProximity}
+use Rattle.proximity.specs.declared.detect.Proximity.the-variants as P
+use Rattle.conflicts.specs.Asked.{askedConflict}
+use Rattle.conflicts.specs.declared.conflict.Verdict.the-variants as J
+use Rattle.obstacles.specs.Lent.{Lent, lentOf}
+use Rattle.ranking.specs.Hints.{held}
+use Rattle.hints.specs.Asked.{askedHints}
+use Rattle.plans.specs.Asked.{askedPlan}
+use Rattle.plans.specs.Laid.{planNumber, planRoom, actionRoomOf}
+use Rattle.plans.specs.Plan.{Plan, Planned, Refused}
+use Rattle.plans.specs.declared.action.SafeAction.the-variants.{Move, Wait}
+
+-- ---- Numbers.
+
+abbrev zero : Float
+zero = ofBits binary64 0x0000_0000_0000_0000
+
+abbrev half : Float
+half = ofBits binary64 0x3fe0_0000_0000_0000
+
+abbrev one : Float
+one = ofBits binary64 0x3ff0_0000_0000_0000
+
+abbrev three : Float
+three = ofBits binary64 0x4008_0000_0000_0000
+
+abbrev minusThree : Float
+minusThree = ofBits binary64 0xc008_0000_0000_0000
+
+abbrev four : Float
+four = ofBits binary64 0x4010_0000_0000_0000
+
+abbrev five : Float
+five = ofBits binary64 0x4014_0000_0000_0000
+
+abbrev minusFive : Float
+minusFive = ofBits binary64 0xc014_0000_0000_0000
+
+abbrev ten : Float
+ten = ofBits binary64 0x4024_0000_0000_0000
+
+-- 1.09 and 0.59, each as the double nearest to it.
+abbrev little : Float
+little = ofBits binary64 0x3ff1_70a3_d70a_3d71
+
+abbrev less : Float
+less = ofBits binary64 0x3fe2_e147_ae14_7ae1
+
+-- ---- Questions.
+
+-- The instant so many milliseconds after the start.
+abbrev at : ℕ → TimePoint
+at ms = record { 0 = pos (ms * 1_000_000) }
+
+-- The span of so many milliseconds.
+abbrev lasting : ℕ → Duration
+lasting ms = record { 0 = pos (ms * 1_000_000) }
+
+abbrev on : Float → Float → ℕ → Waypoint
+on x y ms = record { time = at ms; x = x; y = y }
+
+-- From one place to another, from the start to such an instant.
+abbrev way : Float → Float → Float → Float → ℕ → Leg
+way x y u v ms = record { start = on x y 0; end = on u v ms }
+
+-- The agent standing at (0, 0) until then.
+abbrev stay : ℕ → Leg
+stay = way zero zero zero zero
+
+-- A footprint of half a metre, so that two carts keep a distance of 1.
+abbrev cart : CircularProfile
+cart = record { footprint = half; follow = zero }
+
+-- The way of the agent in P8 and P10, and the cart that it meets in each.
+abbrev ahead : Leg
+ahead = way zero zero ten zero 10_000
+
+abbrev oncoming : Leg
+oncoming = way ten zero zero zero 10_000
+
+abbrev crossing : Lent
+crossing =
+    lentOf (0 ∷ []) (half ∷ (zero ∷ (one ∷ []))) (pos 0 ∷ (pos 10_000_000_000 ∷ [])) (five ∷ (five ∷ [])) (minusFive ∷ (five ∷ []))
+
+-- The agent of P10 with 9 ns for its way.
+abbrev brief : Leg
+brief = record { start = on zero zero 0; end = record { time = record { 0 = pos 9 }; x = ten; y = zero } }
+
+-- P10, with a budget (RULES 16.11).
+abbrev planWith : ℕ → Plan
+planWith budget = askedPlan cart ahead budget crossing
+
+-- ---- Answers.
+
+pub record Marked : Type 0 where
+  -- A cart that creeps away over the limit is refused (RULES 16.6),
+  pub p6 : askedProximity one (stay 1_000_000) (way one zero little zero 1_000_000) ≡ P.Refused 5
+  -- and one that creeps within it stays near (RULES 16.7).
+  pub p7 : askedProximity one (stay 1_000_000) (way half zero less zero 1_000_000) ≡ P.Enters (at 0)
+  -- Two carts that drive at one another are in conflict (RULES 16.8).
+  pub p8-near : askedProximity one ahead oncoming ≡ P.Passes (at 4_500) (at 5_500)
+  pub p8 : askedConflict cart ahead cart oncoming one ≡ J.Conflict
+  -- A cart that touches the clearance and drives on is not (RULES 16.9).
+  pub p9-near : askedProximity one (stay 6_000) (way minusThree one three one 6_000) ≡ P.Passes (at 3_000) (at 3_000)
+  pub p9 : askedConflict cart (stay 6_000) cart (way minusThree one three one 6_000) one ≡ J.Clear
+  -- Crossing has one hint (RULES 16.10),
+  pub p10-hints : held (askedHints cart ahead crossing) ≡
+      record {
+        contour = lasting 2_000;
+        reach = four;
+        hint = record { place = record { x = four; y = zero }; until = at 6_000; obstacle = 0 };
+      } ∷ []
+  -- and one path (RULES 16.11),
+  pub p10 : planWith 4_096 ≡
+      Planned 1 1 1
+      (record {
+        arrival = at 10_000;
+        pops = 1;
+        hold = lasting 2_000;
+        actions = Move (on four zero 4_000) ∷ (Wait 0 (at 6_000) ∷ (Move (on ten zero 12_000) ∷ []));
+      } ∷ [])
+  -- handed over in these words, four for a line (RULES 15.1 to 15.4);
+  pub p10-number : planNumber (planWith 4_096) 8 12 ≡ 0
+  pub p10-paths : planRoom (planWith 4_096) 8 12 ≡
+      1 ∷ (1 ∷ (1 ∷ (1 ∷ (10_000_000_000 ∷ (1 ∷ (2_000_000_000 ∷ (3 ∷ [])))))))
+  pub p10-actions : actionRoomOf (planWith 4_096) 8 12 ≡
+      1 ∷ (4_000_000_000 ∷ (0x4010_0000_0000_0000 ∷ (0 ∷
+      (2 ∷ (0 ∷ (6_000_000_000 ∷ (0 ∷
+      (1 ∷ (12_000_000_000 ∷ (0x4024_0000_0000_0000 ∷ (0 ∷ [])))))))))))
+  -- without a pop it is refused (RULES 13.21).
+  pub p10-spent : planWith 0 ≡ Refused 11
+  -- The same way in 9 ns is one Move (RULES 13.4, 15.9).
+  pub p10-brief : askedPlan cart brief 4_096 crossing ≡
+      Planned 0 0 0 (record { arrival = record { 0 = pos 9 }; pops = 0; hold = lasting 0; actions = Move (brief .end) ∷ [] } ∷ [])
