@@ -152,6 +152,11 @@ uint64_t igelbert_linear_paths(double footprint, double follow, int64_t t0, doub
     const double *xs, size_t xs_len, const double *ys, size_t ys_len, uint64_t *paths,
     size_t paths_len, uint64_t *actions, size_t actions_len);
 
+/* The lines that the program `plan` prints for a request stream (docs/RULES.md, sections 14 and 15),
+ * those of a refusal too: 0, with the text in `out` and zeros behind it; it has no zero byte. 12, and
+ * zero throughout, where `out` is too small; 164,517 bytes are enough. */
+uint64_t igelbert_plan(const uint8_t *stream, size_t stream_len, uint8_t *out, size_t out_len);
+
 #ifdef __cplusplus
 }
 #endif

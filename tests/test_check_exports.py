@@ -9,18 +9,18 @@ import check_exports as tool  # noqa: E402
 
 RATTLE = """
 #[no_mangle]
-pub extern "C" fn igelbert_f(a: i64, xs: &[f64], out: &mut [u64]) -> u64
+pub extern "C" fn igelbert_f(a: i64, xs: &[f64], s: &[u8], out: &mut [u64]) -> u64
     ensures { λ r. ⌜ r ≡ 0 ⌝ }
 {
 """
 HEADER = """
 /* about igelbert_f(void); */
-uint64_t igelbert_f(int64_t a, const double *xs, size_t xs_len, uint64_t *out,
-                    size_t out_len);
+uint64_t igelbert_f(int64_t a, const double *xs, size_t xs_len, const uint8_t *s,
+                    size_t s_len, uint64_t *out, size_t out_len);
 """
 RUST = """
 extern "C" {
-    fn igelbert_f(a: i64, xs: *const f64, xs_len: usize, out: *mut u64, out_len: usize) -> u64;
+    fn igelbert_f(a: i64, xs: *const f64, xs_len: usize, s: *const u8, s_len: usize, out: *mut u64, out_len: usize) -> u64;
 }
 """
 

@@ -17,6 +17,7 @@ NUMBERS = {
     "u64": ("uint64_t", "u64"),
     "f64": ("double", "f64"),
     "usize": ("size_t", "usize"),
+    "u8": ("uint8_t", "u8"),
 }
 
 

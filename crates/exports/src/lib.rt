@@ -7,4 +7,5 @@ pub mod proximity_calls;
 pub mod roots;
 pub mod segment_calls;
 pub mod shape_calls;
+pub mod text_calls;
 pub mod times;

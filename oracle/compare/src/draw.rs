@@ -20,6 +20,11 @@ const EACH: usize = 8;
 /// A stream of dice that no case uses.
 const APART: u64 = 1 << 40;
 
+/// Dice for the questions about a case.
+pub fn beside(seed: u64, number: u64) -> Dice {
+    Dice::new(seed, APART + number)
+}
+
 /// Calls `ask` so often as is asked for, with requests of all kinds in turn. Bytes that are no
 /// stream are passed over.
 pub fn each(seed: u64, count: u64, mut ask: impl FnMut(&mut Drawn)) {
@@ -29,7 +34,7 @@ pub fn each(seed: u64, count: u64, mut ask: impl FnMut(&mut Drawn)) {
         let Some(request) = stream::read(&made.bytes) else {
             continue;
         };
-        let dice = Dice::new(seed, APART + number);
+        let dice = beside(seed, number);
         let mut drawn = Drawn {
             kind: made.kind,
             request,

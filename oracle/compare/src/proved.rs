@@ -246,6 +246,7 @@ extern "C" {
         out: *mut u64,
         out_len: usize,
     ) -> u64;
+    fn igelbert_plan(stream: *const u8, stream_len: usize, out: *mut u8, out_len: usize) -> u64;
 }
 
 // SAFETY, of each call below: each pointer and its length are those of one slice, and those written
@@ -537,6 +538,10 @@ pub fn linear_paths(
             actions.len(),
         )
     }
+}
+
+pub fn plan(stream: &[u8], out: &mut [u8]) -> u64 {
+    unsafe { igelbert_plan(stream.as_ptr(), stream.len(), out.as_mut_ptr(), out.len()) }
 }
 
 pub fn stationary_proximity(

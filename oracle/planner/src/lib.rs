@@ -7,6 +7,7 @@ pub mod generate;
 pub mod lines;
 pub mod marked;
 pub mod plan;
+pub mod replies;
 pub mod request;
 pub mod stream;
 pub mod tally;

@@ -3,7 +3,7 @@
 use pico_args::Arguments;
 use planner::generate::{self, calls, Kind};
 use planner::tally::{Outcomes, Tally};
-use planner::{answers, lines, marked, plan, stream};
+use planner::{answers, lines, marked, plan, replies, stream};
 use std::io::{self, Read, Write};
 use std::process::ExitCode;
 use terms::Fault;
@@ -17,6 +17,7 @@ oracle cover [--seed N] [--count N] [--kind KIND]
                                   what the generator covers: kinds, answers and refusals
 oracle kinds                      the kinds of request
 oracle answers [--seed N] [--count N]       the fixed list of answers on times
+oracle replies [--seed N] [--count N]       the fixed list of what `plan` replies
 ";
 
 fn main() -> ExitCode {
@@ -40,17 +41,19 @@ fn run(mut args: Arguments) -> Done {
         Some("case") => one_case(args),
         Some("cover") => cover(args),
         Some("kinds") => ended(args).and_then(|()| write(kinds_text().as_bytes())),
-        Some("answers") => {
-            let (seed, count) = (
-                option(&mut args, "--seed", 1)?,
-                option(&mut args, "--count", 720)?,
-            );
-            ended(args)?;
-            write(answers::times(seed, count).as_bytes())
-        }
+        Some("answers") => list(args, (1, 720), answers::times),
+        Some("replies") => list(args, (2, 160), replies::listed),
         Some(other) => Err(format!("`{other}` is no command\n{USAGE}")),
         None => Err(format!("which command?\n{USAGE}")),
     }
+}
+
+/// Prints a fixed list, with the seed and the count that are kept where none are given.
+fn list(mut args: Arguments, kept: (u64, u64), listed: fn(u64, u64) -> String) -> Done {
+    let seed = option(&mut args, "--seed", kept.0)?;
+    let count = option(&mut args, "--count", kept.1)?;
+    ended(args)?;
+    write(listed(seed, count).as_bytes())
 }
 
 fn option(args: &mut Arguments, name: &'static str, default: u64) -> Result<u64, String> {

@@ -8,6 +8,7 @@ pub mod path;
 pub mod plan;
 pub mod positions;
 pub mod profiles;
+pub mod program;
 pub mod proximity;
 pub mod roots;
 pub mod segment;
@@ -74,5 +75,9 @@ pub const ALL: &[Layer] = &[
     Layer {
         name: "plan",
         compare: plan::compare,
+    },
+    Layer {
+        name: "program",
+        compare: program::compare,
     },
 ];

@@ -1,0 +1,52 @@
+-- What `plan` prints for a stream (RULES 14.18, 15.1 to 15.11).
+-- Assumes nothing.
+use Prim.Native.Nat.{ℕ}
+use mathlib.Core.Bool.{cond}
+use mathlib.Core.List.{List, [], _∷_, _++_}
+use lib.Dec.{leb}
+use lib.Ieee.{binary64, toBits}
+use lib.ListN.{length}
+use Rattle.numbers.specs.Word.{wordOf}
+use Rattle.plans.specs.Plan.{Path, Plan, Planned, Refused, allActions}
+use Rattle.plans.specs.declared.action.SafeAction.{SafeAction}
+use Rattle.plans.specs.declared.action.SafeAction.the-variants.{Move, Wait}
+use Rattle.requests.specs.Asked.{streamPlan}
+use Rattle.texts.specs.declared.room.Told.{Told}
+use Rattle.texts.specs.declared.room.Told.the-variants as T
+use Rattle.texts.specs.Lines.{okLine, pathLine, moveLine, waitLine, refusedLine}
+
+-- The line of an action (RULES 15.3, 15.4).
+unfoldable pub actionText : SafeAction → List ℕ
+actionText (Move w) = moveLine (wordOf (w .time .0)) (toBits binary64 (w .x)) (toBits binary64 (w .y))
+actionText (Wait obstacle end) = waitLine obstacle (wordOf (end .0))
+
+unfoldable pub actionsText : List SafeAction → List ℕ
+actionsText [] = []
+actionsText (a ∷ rest) = actionText a ++ actionsText rest
+
+-- A path's line, then those of its actions in order (RULES 15.2, 15.6).
+unfoldable pub pathText : Path → List ℕ
+pathText p = pathLine (wordOf (p .arrival .0)) (p .pops) (wordOf (p .hold .0)) ++ actionsText (p .actions)
+
+unfoldable pub pathsText : List Path → List ℕ
+pathsText [] = []
+pathsText (p ∷ ps) = pathText p ++ pathsText ps
+
+-- First the counts, then the paths in order of arrival; a refusal is its one line (RULES 15.1, 15.5, 15.6).
+unfoldable pub planText : Plan → List ℕ
+planText (Planned hints times sweeps ps) = okLine hints times sweeps (length ps) ++ pathsText ps
+planText (Refused n) = refusedLine n
+
+-- There is room for 1,600 actions over all paths, and for everything else; past it the answer is 12 (RULES 14.18).
+unfoldable pub roomed : Plan → Plan
+roomed (Planned hints times sweeps ps) =
+    cond (leb (length (allActions ps)) 1600) (Planned hints times sweeps ps) (Refused 12)
+roomed (Refused n) = Refused n
+
+unfoldable pub streamText : List ℕ → List ℕ
+streamText s = planText (roomed (streamPlan s))
+
+-- How long a text is; a refusal has none.
+unfoldable pub lengthOf : Told → ℕ
+lengthOf (T.Text n) = n
+lengthOf (T.Refused n) = 0

@@ -1,0 +1,10 @@
+pub mod Numbers
+pub mod Packing
+pub mod Sizes
+pub mod ReadBack
+pub mod WrittenBack
+pub mod RoundTrip
+pub mod TableOf
+pub mod Laid
+pub mod Counted
+pub mod Crossing

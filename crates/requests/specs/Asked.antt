@@ -1,0 +1,21 @@
+-- What `plan` is asked by a stream (RULES 14.17, 5.1).
+-- Assumes nothing.
+use Prim.Native.Nat.{ℕ}
+use mathlib.Core.List.{List}
+use Rattle.plans.specs.Asked.{askedPlan}
+use Rattle.plans.specs.Plan.{Plan, Refused}
+use Rattle.requests.specs.Request.{Request, Reading, Of, Malformed}
+use Rattle.requests.specs.Format.{readOf}
+use Rattle.requests.specs.Table.{profileOf, legOf, tableOf}
+
+-- The plan for a request.
+unfoldable pub requestPlan : Request → Plan
+requestPlan r = askedPlan (profileOf (r .footprint) (r .follow)) (legOf r) (r .budget) (tableOf (r .obstacles))
+
+-- A malformed stream is refused 2 (RULES 14.17).
+unfoldable pub streamPlan : List ℕ → Plan
+streamPlan s = by (readOf s)
+  where
+    by : Reading → Plan
+    by (Of r) = requestPlan r
+    by Malformed = Refused 2

@@ -1,0 +1,70 @@
+-- A request as the numbers that a plan is asked with: the agent, and the lent lists of the obstacles (RULES 14.14, 14.15, 20.7).
+-- Assumes nothing.
+use Prim.Native.Nat.{ℕ, _+_}
+use mathlib.Core.List.{List, [], _∷_, _++_, map}
+use lib.IntN.{ℤ, pos}
+use lib.Ieee.{Float, binary64, ofBits}
+use lib.ListN.{length}
+use Rattle.shapes.specs.declared.profile.CircularProfile.{CircularProfile}
+use Rattle.shapes.specs.declared.waypoint.Leg.{Leg}
+use Rattle.shapes.specs.declared.waypoint.Waypoint.{Waypoint}
+use Rattle.obstacles.specs.Obstacle as O
+use Rattle.obstacles.specs.Obstacle.{boxOfTrajectory}
+use Rattle.obstacles.specs.Lent.{Lent, lentOf}
+use Rattle.requests.specs.Request.{Point, Obstacle, Request}
+
+-- The double of 64 bits (RULES 14.14).
+abbrev pub double : ℕ → Float
+double w = ofBits binary64 w
+
+-- ---- The agent.
+
+abbrev pub waypointOf : Point → Waypoint
+waypointOf p = record { time = record { 0 = pos (p .time) }; x = double (p .x); y = double (p .y) }
+
+abbrev pub profileOf : ℕ → ℕ → CircularProfile
+profileOf footprint follow = record { footprint = double footprint; follow = double follow }
+
+unfoldable pub legOf : Request → Leg
+legOf r = record { start = waypointOf (r .from); end = waypointOf (r .to) }
+
+-- ---- The obstacles.
+
+-- What an obstacle of the request is: its profile, the conflict distance squared that it carries, its waypoints, its box
+-- (RULES 2.16, 7.10).
+unfoldable pub obstacleOf : Obstacle → O.Obstacle
+obstacleOf o =
+    record {
+      profile = profileOf (o .footprint) (o .follow);
+      limit = double (o .limit);
+      waypoints = map waypointOf (o .points);
+      bounds = boxOfTrajectory (double (o .footprint)) (map waypointOf (o .points));
+    }
+
+-- Where the waypoints of each obstacle begin, when i stand before them.
+unfoldable pub startsFrom : ℕ → List Obstacle → List ℕ
+startsFrom i [] = []
+startsFrom i (o ∷ os) = i ∷ startsFrom (i + length (o .points)) os
+
+-- Three numbers for each.
+unfoldable pub numbersOf : List Obstacle → List Float
+numbersOf [] = []
+numbersOf (o ∷ os) = double (o .footprint) ∷ (double (o .follow) ∷ (double (o .limit) ∷ numbersOf os))
+
+-- The waypoints of all, one obstacle behind another.
+unfoldable pub pointsOf : List Obstacle → List Point
+pointsOf [] = []
+pointsOf (o ∷ os) = o .points ++ pointsOf os
+
+abbrev pub timesOf : List Point → List ℤ
+timesOf ps = map (λ p. pos (p .time)) ps
+
+abbrev pub xsOf : List Point → List Float
+xsOf ps = map (λ p. double (p .x)) ps
+
+abbrev pub ysOf : List Point → List Float
+ysOf ps = map (λ p. double (p .y)) ps
+
+unfoldable pub tableOf : List Obstacle → Lent
+tableOf os =
+    lentOf (startsFrom 0 os) (numbersOf os) (timesOf (pointsOf os)) (xsOf (pointsOf os)) (ysOf (pointsOf os))

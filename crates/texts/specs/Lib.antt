@@ -1,0 +1,5 @@
+pub mod Room
+pub mod Letters
+pub mod Numerals
+pub mod Lines
+pub mod Answer

@@ -1,0 +1,45 @@
+// A text in a lent room: put piece by piece as far as the room reaches, then handed over (docs/RULES.md, 4.12, 4.14 and 4.15).
+ghost use mathlib.Core.Path.{_≡_};
+ghost use mathlib.Core.List.{_∷_, []};
+ghost use Rattle.lists.specs.Outcome.{wiped};
+ghost use Rattle.texts.specs.Room.{Put, Settled};
+
+// How long a text is, or a refusal and its number.
+pub enum Told {
+    Text(usize),
+    Refused(u64),
+}
+
+// Puts a byte at its place and answers the place behind it, or the one past the room's end where it has no such place.
+pub(crate) fn put_byte(out: &mut [u8], at: usize, b: u8) -> usize
+    ensures { λ r. ⌜ Put (b ∷ []) (now (out .entry)) at (now (out .exit)) r ⌝ }
+{
+    if at < out.len() {
+        out[at] = b;
+        return at + 1;
+    }
+    out.len() + 1
+}
+
+// Sets every byte at or after `from` to 0.
+fn wipe_from(out: &mut [u8], from: usize)
+    ensures { λ _. ⌜ now (out .exit) ≡ wiped (now (out .entry)) from ⌝ }
+{
+    let mut i = from;
+    while i < out.len() {
+        out[i] = 0;
+        i += 1;
+    }
+}
+
+// Hands over a text that was put before and ends at `end`: zero behind it, or 12 where the room is too small.
+pub(crate) fn settle(out: &mut [u8], end: usize) -> Told
+    ensures { λ r. ⌜ Settled end (now (out .entry)) (now (out .exit)) r ⌝ }
+{
+    if out.len() < end {
+        wipe_from(out, 0);
+        return Told::Refused(12);
+    }
+    wipe_from(out, end);
+    Told::Text(end)
+}

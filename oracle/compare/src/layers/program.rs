@@ -1,0 +1,96 @@
+//! What `plan` prints for a stream, byte for byte, in a lent room (RULES, sections 14 and 15).
+
+use crate::crossings;
+use crate::draw::{beside, Drawn};
+use crate::proved;
+use crate::report::Report;
+use crate::room::{Expected, Handed};
+use planner::generate::dice::Dice;
+use planner::generate::{case, Case};
+use planner::plan::{self, Stop};
+use planner::{lines, stream};
+
+/// The room that the program has.
+const WHOLE: usize = 164_517;
+
+/// The first line of a reply, by the refusal's number.
+const REFUSED: [&str; 13] = [
+    "reply: a plan",
+    "reply: refused 1",
+    "reply: refused 2",
+    "reply: refused 3",
+    "reply: refused 4",
+    "reply: refused 5",
+    "reply: refused 6",
+    "reply: refused 7",
+    "reply: refused 8",
+    "reply: refused 9",
+    "reply: refused 10",
+    "reply: refused 11",
+    "reply: refused 12",
+];
+
+pub fn compare(seed: u64, count: u64) -> Report {
+    let mut report = Report::default();
+    for number in 0..count {
+        let made = case(seed, number, None);
+        let kind = made.kind;
+        let (bytes, mut dice) = asked(made, beside(seed, number));
+        let text = expected(&mut report, &bytes);
+        let len = room(&mut dice, text.len());
+        let handed = lend(len, |out| proved::plan(&bytes, out));
+        let words = text.bytes().map(u64::from).collect();
+        let expected = Expected::Words(words).in_room(len);
+        report.add(kind.name(), &handed, &expected, || {
+            format!("the stream {bytes:02x?} in {len} bytes")
+        });
+    }
+    report
+}
+
+/// The case's own stream; in one case of two, where it is a request, that of carts on the agent's way.
+fn asked(made: Case, mut dice: Dice) -> (Vec<u8>, Dice) {
+    match stream::read(&made.bytes) {
+        Some(request) if dice.one_in(2) => {
+            let mut drawn = Drawn {
+                kind: made.kind,
+                request,
+                dice,
+            };
+            let crowded = crossings::asked(&mut drawn);
+            (stream::written(&crowded), drawn.dice)
+        }
+        _ => (made.bytes, dice),
+    }
+}
+
+fn expected(report: &mut Report, bytes: &[u8]) -> String {
+    let planned = plan::of_stream(bytes);
+    match planned {
+        Ok(_) => report.see(REFUSED[0]),
+        Err(Stop::Refused(n)) => report.see(REFUSED[usize::from(n)]),
+        Err(Stop::Odd(_)) => report.see("reply: none by the rules"),
+    }
+    lines::of(&planned)
+}
+
+/// Mostly the program's own room; exactly enough, one byte more or fewer, or none in the other cases.
+fn room(dice: &mut Dice, text: usize) -> usize {
+    match dice.whole(0, 15) {
+        0 => text,
+        1 => text + 1,
+        2 => text - 1,
+        3 => 0,
+        _ => WHOLE,
+    }
+}
+
+/// Lends a room of so many bytes, none of them zero, to the call.
+fn lend(len: usize, call: impl FnOnce(&mut [u8]) -> u64) -> Handed {
+    let mut room = vec![0xa5; len];
+    let number = call(&mut room);
+    Handed {
+        number,
+        room: room.into_iter().map(u64::from).collect(),
+    }
+}
