@@ -1,0 +1,6 @@
+mod Examined
+mod Hints
+mod Chain
+mod Ways
+mod Path
+mod Plan
