@@ -1,6 +1,10 @@
 mod Examined
-mod Hints
+pub mod Legs
+pub mod Segment
+pub mod Hints
 mod Chain
 mod Ways
 mod Path
-mod Plan
+pub mod LonePath
+pub mod Plan
+pub mod Refusals
