@@ -1,7 +1,6 @@
 -- What is wrong with an input of an agent and a table is 1, 2 or 3 (RULES 4.1 to 4.3, 5.1).
 -- Assumes nothing.
 use Prim.Native.Nat.{ℕ}
-use mathlib.Core.Path.{_≡_}
 use mathlib.Core.Bool.{Bool, true, false, _&&_, cond}
 use lib.Dec.{eqb}
 use Rattle.shapes.specs.Domain.{isLeg, isProfile}

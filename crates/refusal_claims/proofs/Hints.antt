@@ -1,7 +1,7 @@
 -- Hints alone are refused by 1, 2, 3, 4, 7 or 10 (RULES 4.13, 5.1 to 5.7).
 -- Assumes nothing.
 use Prim.Native.Nat.{ℕ}
-use mathlib.Core.Path.{_≡_, refl, ap, subst, sym}
+use mathlib.Core.Path.{_≡_, refl}
 use mathlib.Core.Logic.{_≢_, _⊎_, inl, inr, ⊎-elim}
 use mathlib.Core.Bool.{Bool, true, false}
 use Rattle.shapes.specs.Leg.{isBrief}

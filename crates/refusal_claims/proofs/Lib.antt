@@ -1,4 +1,5 @@
 mod Examined
+pub mod Shapes
 pub mod Legs
 pub mod Segment
 pub mod Hints

@@ -35,7 +35,7 @@ use Rattle.plans.specs.Path.{Sought, Path, Missing, Refused, unheld, withPops, 
 use Rattle.plans.specs.declared.action.SafeAction.{SafeAction}
 use Rattle.plans.specs.declared.action.SafeAction.the-variants.{Move, Wait}
 use Rattle.refusal_claims.specs.Numbers.{PathRefusal, Strayed, Spent}
-use Rattle.refusal_claims.proofs.Chain.{Tests, Searches, searches}
+use Rattle.refusal_claims.proofs.Chain.{Searches, searches}
 use Rattle.refusal_claims.proofs.Ways.{Reaches, travels, Contours, contours, Tried, end-tried, goal-tried, start-tried}
 use Rattle.refusal_claims.proofs.Ways.{straight-tried}
 

@@ -1,8 +1,8 @@
 -- A whole plan is refused by its input's faults, as hints alone, arrival times alone and paths are (RULES 5.5 to 5.7).
 -- Assumes nothing.
 use Prim.Native.Nat.{ℕ}
-use mathlib.Core.Path.{_≡_, refl, ap, sym, _∙_}
-use mathlib.Core.Logic.{_≢_, _⊎_, inl, inr, ⊎-elim}
+use mathlib.Core.Path.{_≡_, refl}
+use mathlib.Core.Logic.{_≢_}
 use mathlib.Core.Bool.{Bool, true, false, cond}
 use mathlib.Core.List.{List, [], _∷_}
 use borrow.Author.Tests.{eqb-false}
@@ -41,7 +41,6 @@ use Rattle.plans.specs.Plan.{Path, Paths, Of, first, sought, pathsFor, Plan, Pl
 use Rattle.plans.specs.Plan.{pathsPlanned, timesPlanned, hintsPlanned, longPlan, shortPlan, planOf}
 use Rattle.plans.proofs.Fine.{numbers-fine}
 use Rattle.path_claims.proofs.Calls.{hints-alone, arrivals-alone}
-use Rattle.refusal_claims.specs.Numbers as N
 use Rattle.refusal_claims.specs.Numbers.{HintsRefusal, PathRefusal, PlanRefusal}
 use Rattle.refusal_claims.specs.Numbers.{Number, Shape, Backward, NoLine, Creep, Apart, Strayed, Stuck, Full, Spent}
 use Rattle.refusal_claims.proofs.Examined.{Finds, agent-finds, numbers-find}

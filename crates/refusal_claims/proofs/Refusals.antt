@@ -1,10 +1,11 @@
 -- What is claimed of refusals holds of every call (RULES D1, 4.12, 4.14).
 -- Assumes nothing.
 use Prim.Native.Nat.{ℕ, _+_}
-use mathlib.Core.Path.{_≡_, refl, sym}
+use mathlib.Core.Path.{_≡_, refl}
 use mathlib.Core.Bool.{Bool, true, false, cond}
 use mathlib.Core.List.{List}
 use native.Mathlib.Omega.{arith}
+use lib.IntN.{ℤ}
 use lib.ListN.{length}
 use lib.Ieee.{Float}
 use Rattle.shapes.specs.declared.profile.CircularProfile.{CircularProfile}
@@ -12,14 +13,15 @@ use Rattle.shapes.specs.declared.waypoint.Leg.{Leg}
 use Rattle.obstacles.specs.Lent.{Lent}
 use Rattle.plans.specs.Asked.{askedPlan}
 use Rattle.plans.specs.Laid.{fits, planNumber}
-use Rattle.plans.specs.Plan.{Path, Plan, Planned, Refused, allActions}
+use Rattle.plans.specs.Plan.{Plan, Planned, Refused, allActions}
 use Rattle.refusal_claims.specs.Numbers.{PlanRefusal}
-use Rattle.refusal_claims.specs.Refusals.{OfLegs, Fitting, OfAgent}
+use Rattle.refusal_claims.specs.Refusals.{OfLeg, OfObstacle, OfLegs, Fitting, OfAgent}
 use Rattle.refusal_claims.proofs.Hints.{hints-refused}
 use Rattle.refusal_claims.proofs.Legs.{proximity-refused, conflict-refused}
 use Rattle.refusal_claims.proofs.LonePath.{path-refused}
 use Rattle.refusal_claims.proofs.Plan.{plan-refused}
 use Rattle.refusal_claims.proofs.Segment.{segment-refused}
+use Rattle.refusal_claims.proofs.Shapes.{position-refused, box-refused, hull-refused}
 
 -- ---- 0 and 9 are no number of a plan's refusal.
 
@@ -48,6 +50,12 @@ nought-fits (Planned hints times sweeps ps) room actionRoom h e =
     by false f k = absurd (omega (arith, k))
 
 -- ---- The claims.
+
+pub leg-refused : (leg : Leg) → OfLeg leg
+leg-refused leg = record { position = λ t. position-refused leg t; box = λ p. box-refused leg p }
+
+pub obstacle-refused : (p : CircularProfile) (times : List ℤ) (xs ys : List Float) → OfObstacle p times xs ys
+obstacle-refused p times xs ys = record { hull = hull-refused p times xs ys }
 
 pub legs-refused : (limit : Float) (agent obstacle : Leg) → OfLegs limit agent obstacle
 legs-refused limit agent obstacle =

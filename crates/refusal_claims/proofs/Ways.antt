@@ -8,7 +8,6 @@ use lib.Ieee
 use lib.Ieee.{Float, binary64}
 use lib.Signed.{ltZ}
 use Rattle.numbers.specs.Time.{spanBetween, instantAfterSeconds}
-use Rattle.numbers.specs.declared.time.Duration.{Duration}
 use Rattle.numbers.specs.declared.time.Instant.{Instant}
 use Rattle.numbers.specs.declared.time.Instant.the-variants as I
 use Rattle.numbers.specs.declared.time.Span.{Span}

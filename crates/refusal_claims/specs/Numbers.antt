@@ -3,6 +3,20 @@
 -- Assumes nothing.
 use Prim.Native.Nat.{ℕ}
 
+-- One leg of the agent's: where it is at an instant, and its box.
+pub data LegRefusal : ℕ → Type 0 where
+  -- A value is outside the table of the domain (RULES 4.1).
+  Number : LegRefusal 1
+  -- The leg ends before it starts (RULES 4.3).
+  Backward : LegRefusal 3
+
+-- The box of an obstacle.
+pub data HullRefusal : ℕ → Type 0 where
+  -- A value is outside the table of the domain (RULES 4.1).
+  Number : HullRefusal 1
+  -- The lists do not fit one another, or a count or an order of times is outside the table (RULES 4.2).
+  Shape : HullRefusal 2
+
 -- Proximity of two legs, and their conflict.
 pub data LegsRefusal : ℕ → Type 0 where
   -- A value is outside the table of the domain (RULES 4.1).

@@ -1,5 +1,5 @@
--- What is claimed of refusals: each has a number of its call's list, and so none is 0, by which an answer is told (RULES D1, 4.12,
--- 4.14). It holds of every call: `refusals` of proofs/Refusals.
+-- What is claimed of refusals: each has a number of its call's list, and a plan is told from a refusal by 0 (RULES D1, 4.12, 4.14).
+-- It holds of every call: `leg-refused`, `obstacle-refused`, `legs-refused` and `agent-refused` of proofs/Refusals.
 -- Assumes nothing.
 use Prim.Native.Nat.{ℕ, _+_}
 use mathlib.Core.Path.{_≡_}
@@ -7,15 +7,21 @@ use mathlib.Core.Logic.{_≢_, _↔_}
 use mathlib.Core.Bool.{true}
 use mathlib.Core.List.{List}
 use lib.ListN.{length}
+use lib.IntN.{ℤ}
 use lib.Ieee.{Float}
 use Rattle.numbers.specs.declared.time.TimePoint.{TimePoint}
+use Rattle.shapes.specs.Asked.{askedBox}
+use Rattle.shapes.specs.declared.calls.Boxed.the-variants as B
 use Rattle.shapes.specs.declared.profile.CircularProfile.{CircularProfile}
 use Rattle.shapes.specs.declared.waypoint.Leg.{Leg}
-use Rattle.proximity.specs.Asked.{askedProximity}
+use Rattle.proximity.specs.Asked.{askedPosition, askedProximity}
+use Rattle.proximity.specs.declared.calls.Whereabouts.the-variants as W
 use Rattle.proximity.specs.declared.detect.Proximity.the-variants as P
 use Rattle.conflicts.specs.Asked.{askedConflict}
 use Rattle.conflicts.specs.declared.conflict.Verdict.the-variants as J
+use Rattle.obstacles.specs.Asked.{askedHull}
 use Rattle.obstacles.specs.Lent.{Lent}
+use Rattle.obstacles.specs.declared.calls.Hull.the-variants as H
 use Rattle.segments.specs.Asked.{askedSegment}
 use Rattle.hints.specs.Asked.{askedHints}
 use Rattle.plans.specs.Path as S
@@ -23,7 +29,17 @@ use Rattle.plans.specs.Asked.{askedPath}
 use Rattle.plans.specs.Asked.{askedPlan}
 use Rattle.plans.specs.Laid.{fits, planNumber}
 use Rattle.plans.specs.Plan.{Path, Plan, Planned, Refused, allActions}
-use Rattle.refusal_claims.specs.Numbers.{LegsRefusal, SegmentRefusal, HintsRefusal, PathRefusal, PlanRefusal}
+use Rattle.refusal_claims.specs.Numbers.{LegRefusal, HullRefusal, LegsRefusal, SegmentRefusal}
+use Rattle.refusal_claims.specs.Numbers.{HintsRefusal, PathRefusal, PlanRefusal}
+
+-- The calls on one leg.
+pub record OfLeg (leg : Leg) : Type 0 where
+  pub position : {n : ℕ} (t : TimePoint) → askedPosition leg t ≡ W.Refused n → LegRefusal n
+  pub box : {n : ℕ} (p : CircularProfile) → askedBox p leg ≡ B.Refused n → LegRefusal n
+
+-- The call on one obstacle.
+pub record OfObstacle (p : CircularProfile) (times : List ℤ) (xs ys : List Float) : Type 0 where
+  pub hull : {n : ℕ} → askedHull p times xs ys ≡ H.Refused n → HullRefusal n
 
 -- The calls on two legs.
 pub record OfLegs (limit : Float) (agent obstacle : Leg) : Type 0 where
