@@ -57,7 +57,8 @@ module _ (limit : Float) (agent obstacle : Leg) where
   unfolding askedProximity
   asked-says = by (legsExamined limit agent obstacle) refl legs-find
     where
-      by : (x : Examined) → legsExamined limit agent obstacle ≡ x → Finds LegsRefusal x → Says (askedProximity limit agent obstacle)
+      by : (x : Examined) → legsExamined limit agent obstacle ≡ x → Finds LegsRefusal x →
+          Says (askedProximity limit agent obstacle)
       by X.Fine e h =
           in-range-says (rangeStart agent obstacle) (rangeEnd agent obstacle) (askedProximity limit agent obstacle)
           (asked-in-range limit agent obstacle e)

@@ -75,7 +75,8 @@ module _ (trip : Trip) where
   unfolding ended
   end-builds from hold =
       let goal = placeOf (trip .leg .end) in
-      reaching-builds (reachedFrom (trip .speed) from goal) (λ w. Of (Move w ∷ []) hold) (travels (trip .speed) from goal) (λ w. tt)
+      reaching-builds (reachedFrom (trip .speed) from goal) (λ w. Of (Move w ∷ []) hold) (travels (trip .speed) from goal)
+      (λ w. tt)
 
   builds : (from : Waypoint) (hold : Duration) (hs : List WaitHint) → Builds (built trip from hold hs)
   unfolding built

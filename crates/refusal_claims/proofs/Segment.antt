@@ -67,7 +67,9 @@ allowed p agent lent = by (isShaped lent) (isProfile p && (isLeg agent && areAll
     by : (shaped numbers : Bool) → (isProfile p && (isLeg agent && areAllowed lent)) ≡ numbers →
         cond shaped (cond numbers (cond (isBackward agent) (X.Refused 3) X.Fine) (X.Refused 1)) (X.Refused 2) ≡ X.Fine →
         areAllowed lent ≡ true
-    by true true numbers e = both (isLeg agent) (areAllowed lent) (both (isProfile p) (isLeg agent && areAllowed lent) numbers .1) .1
+    by true true numbers e =
+        let rest = both (isProfile p) (isLeg agent && areAllowed lent) numbers .1 in
+        both (isLeg agent) (areAllowed lent) rest .1
     by true false numbers e = absurd (true≢false (cc e))
     by false found numbers e = absurd (true≢false (cc e))
 
@@ -84,8 +86,9 @@ module _ (p : CircularProfile) (agent : Leg) (lent : Lent) {n : ℕ} where
       let o = f .obstacle in
       let leg = f .leg in
       let a = accepted p agent lent fine in
-      let fit = both (isProfile (o .profile)) (every isDriven (legsOf (o .waypoints))) (each isFit os (a .others) o (f .met .obstacle)) in
-      let driven = both (isLeg leg) (isRising leg) (each isDriven (legsOf (o .waypoints)) (fit .1) leg (f .met .legOf)) in
+      let legs = legsOf (o .waypoints) in
+      let fit = both (isProfile (o .profile)) (every isDriven legs) (each isFit os (a .others) o (f .met .obstacle)) in
+      let driven = both (isLeg leg) (isRising leg) (each isDriven legs (fit .1) leg (f .met .legOf)) in
       let numbers = both (isProfile (o .profile)) (isLimit (o .limit) && every isWaypoint (o .waypoints))
       (each isAllowed os (allowed p agent lent fine) o (f .met .obstacle)) in
       let limited = both (isLimit (o .limit)) (every isWaypoint (o .waypoints)) (numbers .1) .0 in

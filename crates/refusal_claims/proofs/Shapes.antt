@@ -55,7 +55,8 @@ module _ (leg : Leg) where
           let a = accepted leg own in
           absurd (never-strays (times-given _ _ (a .start-time) (a .end-time)) (time-in-reach t timed) s)
 
-      by : (allowed backward : Bool) → (isLeg leg && isTime t) ≡ allowed → isBackward leg ≡ backward → Stands (askedPosition leg t)
+      by : (allowed backward : Bool) → (isLeg leg && isTime t) ≡ allowed → isBackward leg ≡ backward →
+          Stands (askedPosition leg t)
       by true true e b = rw (e, b) Backward
       by true false e b =
           let h = both (isLeg leg) (isTime t) e in moves (h .0) (h .1) refl (motion leg t) b

@@ -171,7 +171,9 @@ module _ (trip : Trip) (os : List Obstacle) where
       reaching-tried (reachedFrom (trip .speed) from (placeOf h))
       (λ w. next (wayOf (trip .profile) os from w) (λ _. waitsAt trip os w h))
       (travels (trip .speed) from (placeOf h))
-      (λ w. next-tried (wayOf (trip .profile) os from w) (waitsAt trip os w h) (way-tried (trip .profile) os from w) (wait-tried w h))
+      (λ w.
+      next-tried (wayOf (trip .profile) os from w) (waitsAt trip os w h) (way-tried (trip .profile) os from w)
+      (wait-tried w h))
 
   stay-tried : (w : Waypoint) (asked : TimePoint) → Tried (staysTill trip os w asked)
   unfolding staysTill

@@ -1,5 +1,5 @@
--- The numbers that each call is refused by, out of the table of refusals (RULES, section 4). The call for arrival times has its own
--- in `search_claims`.
+-- The numbers that each call is refused by, out of the table of refusals (RULES, section 4). Those of the call for arrival times
+-- stand in `search_claims`.
 -- Assumes nothing.
 use Prim.Native.Nat.{ℕ}
 

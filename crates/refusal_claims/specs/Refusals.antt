@@ -1,5 +1,5 @@
--- What is claimed of refusals: each has a number of its call's list, and a plan is told from a refusal by 0 (RULES D1, 4.12, 4.14).
--- It holds of every call: `leg-refused`, `obstacle-refused`, `legs-refused` and `agent-refused` of proofs/Refusals.
+-- What is claimed of refusals: each has a number of its call's list, and a plan is told from a refusal by 0 (RULES D1, 4.12,
+-- 4.14). It holds of every call: `leg-refused`, `obstacle-refused`, `legs-refused` and `agent-refused` of proofs/Refusals.
 -- Assumes nothing.
 use Prim.Native.Nat.{ℕ, _+_}
 use mathlib.Core.Path.{_≡_}
