@@ -75,7 +75,7 @@ pub data PathRefusal : ℕ → Type 0 where
   -- The search would make one pop more than its budget (RULES 4.11).
   Spent : PathRefusal 11
 
--- A whole plan: as hints alone, arrival times alone and a path are refused.
+-- A whole plan: by no other numbers than hints alone, arrival times alone and a path are.
 pub data PlanRefusal : ℕ → Type 0 where
   -- A value is outside the table of the domain (RULES 4.1).
   Number : PlanRefusal 1
@@ -87,7 +87,7 @@ pub data PlanRefusal : ℕ → Type 0 where
   NoLine : PlanRefusal 4
   -- An obstacle's leg creeps along a way that is tested, or about the goal (RULES 4.5).
   Creep : PlanRefusal 5
-  -- A way that is tested runs backward (RULES 4.6, 5.11, 13.27).
+  -- A way that is tested runs backward (RULES 4.6, 5.11, 13.27). No plan is known that meets it by the hints of its own.
   Apart : PlanRefusal 6
   -- A number of a hint, or an instant or a span of the search, is past what is allowed (RULES 4.7).
   Strayed : PlanRefusal 7
