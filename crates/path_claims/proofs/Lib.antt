@@ -6,7 +6,7 @@ mod Parts
 pub mod FirstArrival
 pub mod Driven
 mod InTurn
-mod Calls
+pub mod Calls
 mod Made
 pub mod Whole
 pub mod LargerBudget
