@@ -4,14 +4,16 @@ use texts::answer;
 use texts::room::Told;
 ghost use mathlib.Core.Path.{_≡_};
 ghost use mathlib.Core.List.{_++_};
-ghost use Prim.Native.Nat.{_-_};
+ghost use Prim.Native.Nat.{_-_, _≤_};
 ghost use lib.ListN.{length, replicate};
 ghost use Rattle.texts.specs.Room.{Tells};
 ghost use Rattle.answering.specs.Text.{streamText, lengthOf};
 
-// Lends the plan rooms for 289 paths and 1,600 actions: a search lists at most 289 arrival times.
+// Lends the plan rooms for 289 paths and 1,600 actions: a search lists at most 289 arrival times. So a reply has at most
+// 1,891 lines, and each of them at most 87 bytes.
 pub fn reply(s: &[u8], out: &mut [u8]) -> Told
     ensures { λ r. ⌜ Tells (streamText (now (s .entry))) (now (out .entry)) (now (out .exit)) r ⌝ }
+    ensures { λ _. ⌜ length (streamText (now (s .entry))) ≤ 164517 ⌝ }
 {
     let mut paths = [0u64; 1160];
     let mut actions = [0u64; 6400];
@@ -29,7 +31,7 @@ fn length_of(told: Told) -> usize
     }
 }
 
-// The reply in a room that holds the longest one, 1,891 lines of at most 87 bytes: how long it is.
+// The reply in a room that holds the longest one: how long it is.
 pub fn whole_reply(s: &[u8], out: &mut [u8; 164517]) -> usize
     ensures { λ r. ⌜ r ≡ length (streamText (now (s .entry))) ⌝ }
     ensures { λ _. ⌜ now (out .exit) ≡ streamText (now (s .entry)) ++ replicate (164517 - length (streamText (now (s .entry)))) 0 ⌝ }

@@ -99,7 +99,7 @@ abbrev brief : Leg
 brief = record { start = on zero zero 0; end = record { time = record { 0 = pos 9 }; x = ten; y = zero } }
 
 -- P10, with a budget (RULES 16.11).
-abbrev planWith : ℕ → Plan
+abbrev pub planWith : ℕ → Plan
 planWith budget = askedPlan cart ahead budget crossing
 
 -- ---- Answers.

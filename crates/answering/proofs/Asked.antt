@@ -1,0 +1,77 @@
+-- What is known of every stream's plan: a refusal has a number, and a plan at most 289 paths.
+-- Assumes nothing.
+use Prim.Native.Nat.{ℕ, _≤_}
+use mathlib.Core.Path.{_≡_, refl, sym, ap, subst, _∙_}
+use mathlib.Core.Logic.{_≢_}
+use mathlib.Core.Bool.{Bool, true, false}
+use mathlib.Core.List.{List, []}
+use native.Mathlib.Omega.{arith}
+use lib.ListN.{length}
+use Rattle.search.proofs.Few.{asked-few}
+use Rattle.shapes.specs.Leg.{isBrief}
+use Rattle.shapes.specs.declared.profile.CircularProfile.{CircularProfile}
+use Rattle.shapes.specs.declared.waypoint.Leg.{Leg}
+use Rattle.obstacles.specs.Lent.{Lent}
+use Rattle.plans.specs.Asked.{askedPlan}
+use Rattle.plans.specs.Plan.{Path, Plan, Planned, Refused, shortPlan}
+use Rattle.path_claims.specs.Whole.{Whole, Long}
+use Rattle.path_claims.proofs.Whole.{whole}
+use Rattle.refusal_claims.proofs.Refusals.{agent-refused}
+use Rattle.requests.specs.Request.{Reading, Of, Malformed}
+use Rattle.requests.specs.Format.{readOf}
+use Rattle.requests.specs.Table.{profileOf, legOf, tableOf}
+use Rattle.requests.specs.Asked.{requestPlan, streamPlan}
+
+-- ---- Of an asked plan.
+
+abbrev countOf : Plan → ℕ
+countOf (Planned hints times sweeps ps) = length ps
+countOf (Refused n) = 0
+
+few-paths : (p : CircularProfile) (agent : Leg) (budget : ℕ) (lent : Lent) (hints times sweeps : ℕ) (ps : List Path) →
+    askedPlan p agent budget lent ≡ Planned hints times sweeps ps → length ps ≤ 289
+unfolding shortPlan
+few-paths p agent budget lent hints times sweeps ps e = by (isBrief agent) refl
+  where
+    by : (b : Bool) → isBrief agent ≡ b → length ps ≤ 289
+    by true brief =
+        let one : length ps ≡ 1 = ap countOf (whole p agent budget lent .short brief e) in
+        omega arith
+    by false long =
+        let l : Long p agent budget lent hints times sweeps ps = whole p agent budget lent .long long e in
+        let few = l .few-paths in
+        let listed = asked-few p (agent .end) lent (l .list) sweeps (l .arrivals) in
+        omega (arith, l .time-count)
+
+-- ---- Of a stream's plan.
+
+pub numbered : (s : List ℕ) (n : ℕ) → streamPlan s ≡ Refused n → n ≢ 0
+unfolding streamPlan requestPlan
+numbered s n e = by (readOf s) refl
+  where
+    numberIn : Plan → ℕ
+    numberIn (Planned hints times sweeps ps) = 0
+    numberIn (Refused m) = m
+
+    by : (r : Reading) → readOf s ≡ r → n ≢ 0
+    by (Of r) read =
+        agent-refused (profileOf (r .footprint) (r .follow)) (legOf r) (tableOf (r .obstacles)) .not-nought (r .budget) (rw read at e)
+    by Malformed read =
+        let two : 2 ≡ n = ap numberIn (rw read at e) in
+        λ nought. omega arith
+
+pub few : (s : List ℕ) (hints times sweeps : ℕ) (ps : List Path) → streamPlan s ≡ Planned hints times sweeps ps → length ps ≤ 289
+unfolding streamPlan requestPlan
+few s hints times sweeps ps e = by (readOf s) refl
+  where
+    isPlan : Plan → ℕ
+    isPlan (Planned hints times sweeps ps) = 0
+    isPlan (Refused m) = 1
+
+    by : (r : Reading) → readOf s ≡ r → length ps ≤ 289
+    by (Of r) read =
+        few-paths (profileOf (r .footprint) (r .follow)) (legOf r) (r .budget) (tableOf (r .obstacles)) hints times sweeps ps
+        (rw read at e)
+    by Malformed read =
+        let one : _≡_ {A = ℕ} 1 0 = ap isPlan (rw read at e) in
+        omega arith
