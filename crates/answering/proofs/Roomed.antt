@@ -26,11 +26,11 @@ lines-told : (hints times sweeps : ℕ) (ps : List Path) (zeros others : List �
 unfolding planLines planText rowAt wordsIn
 lines-told hints times sweeps ps zeros others =
     let rows : rowsOf (wordsIn (headRows hints times sweeps ps) ++ zeros) ≡
-          record { first = hints; second = times; third = sweeps; fourth = length ps } ∷ (map rowOfPath ps ++ rowsOf zeros) =
-          rows-cons hints times sweeps (length ps) (wordsIn (pathRows ps) ++ zeros) ∙
-          ap (λ xs. record { first = hints; second = times; third = sweeps; fourth = length ps } ∷ xs) (path-rows ps zeros) in
+    record { first = hints; second = times; third = sweeps; fourth = length ps } ∷ (map rowOfPath ps ++ rowsOf zeros) =
+    rows-cons hints times sweeps (length ps) (wordsIn (pathRows ps) ++ zeros) ∙
+    ap (λ xs. record { first = hints; second = times; third = sweeps; fourth = length ps } ∷ xs) (path-rows ps zeros) in
     let own : take (length ps) (map rowOfPath ps ++ rowsOf zeros) ≡ map rowOfPath ps =
-          take-at (map rowOfPath ps) (rowsOf zeros) (length ps) (length-map ps rowOfPath) in
+    take-at (map rowOfPath ps) (rowsOf zeros) (length ps) (length-map ps rowOfPath) in
     rw (rows, own, action-rows (allActions ps) others, path-lines ps (rowsOf others))
 
 -- Rooms of 290 rows for paths and 1,600 for actions are too small exactly past 1,600 actions.

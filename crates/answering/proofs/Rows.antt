@@ -96,7 +96,7 @@ path-lines (p ∷ ps) rest =
     let others : List Row = map rowOfAction (allActions ps) ++ rest in
     let long : length own ≡ length (p .actions) = length-map (p .actions) rowOfAction in
     let apart : map rowOfAction (p .actions ++ allActions ps) ++ rest ≡ own ++ others =
-          ap (λ xs. xs ++ rest) (map-append rowOfAction (p .actions) (allActions ps)) ∙
-          append-assoc own (map rowOfAction (allActions ps)) rest in
+    ap (λ xs. xs ++ rest) (map-append rowOfAction (p .actions) (allActions ps)) ∙
+    append-assoc own (map rowOfAction (allActions ps)) rest in
     rw (apart, take-at own others _ long, drop-at own others _ long, action-lines (p .actions), path-lines ps rest)
     (sym (append-assoc (pathLine (wordOf (p .arrival .0)) (p .pops) (wordOf (p .hold .0))) (actionsText (p .actions)) (pathsText ps)))

@@ -1,1 +1,8 @@
-mod Words
+pub mod Putting
+pub mod Digits
+pub mod Rows
+pub mod Telling
+pub mod NoSecond
+pub mod Reading
+pub mod Sizes
+pub mod Examples

@@ -32,7 +32,8 @@ rowsOf room = listed (rowAt room) (length room / 4) 0
 
 -- A move's row begins with 1; any other is a wait's.
 unfoldable pub actionLine : Row → List ℕ
-actionLine row = cond (eqb (row .first) 1) (moveLine (row .second) (row .third) (row .fourth)) (waitLine (row .second) (row .third))
+actionLine row =
+    cond (eqb (row .first) 1) (moveLine (row .second) (row .third) (row .fourth)) (waitLine (row .second) (row .third))
 
 unfoldable pub actionLines : List Row → List ℕ
 actionLines [] = []

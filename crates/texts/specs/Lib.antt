@@ -3,3 +3,4 @@ pub mod Letters
 pub mod Numerals
 pub mod Lines
 pub mod Answer
+pub mod Reading

@@ -1,7 +1,7 @@
 -- Numbers in digits (RULES 15.3, 15.7).
 -- Assumes nothing.
 use Prim.Native.Nat.{ℕ, zero, suc, _+_, _/_, _%_, _^_}
-use mathlib.Core.Bool.{cond}
+use mathlib.Core.Bool.{Bool, true, false, cond}
 use mathlib.Core.List.{List, [], _∷_, _++_}
 use lib.Dec.{ltb}
 use lib.IntN.{ℤ, pos, negsuc}
@@ -11,10 +11,15 @@ use Rattle.numbers.specs.Word.{signedOf}
 unfoldable pub glyph : ℕ → ℕ
 glyph d = cond (ltb d 10) (48 + d) (87 + d)
 
+-- A number below 10 is one digit; else the last one follows those of a tenth of it.
+abbrev pub shortened : Bool → ℕ → (ℕ → List ℕ) → List ℕ
+shortened true n go = glyph n ∷ []
+shortened false n go = go (n / 10) ++ (glyph (n % 10) ∷ [])
+
 -- The last k decimal digits of n, without zeros in front.
 unfoldable pub decimalBy : ℕ → ℕ → List ℕ
 decimalBy zero n = []
-decimalBy (suc k) n = cond (ltb n 10) (glyph n ∷ []) (decimalBy k (n / 10) ++ (glyph (n % 10) ∷ []))
+decimalBy (suc k) n = shortened (ltb n 10) n (decimalBy k)
 
 -- All of them: a number has fewer digits than one more than itself.
 unfoldable pub decimalOf : ℕ → List ℕ

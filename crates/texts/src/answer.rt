@@ -4,7 +4,7 @@ use crate::line;
 use crate::room;
 use crate::room::Told;
 ghost use mathlib.Core.Path.{_≡_};
-ghost use Prim.Native.Nat.{_+_, _≤_, _<_, _/_, min};
+ghost use Prim.Native.Nat.{_+_, _*_, _≤_, _<_, _/_, min};
 ghost use lib.ListN.{length, getD};
 ghost use Rattle.lists.specs.Listed.{listedTo};
 ghost use Rattle.texts.specs.Room.{Put, Tells};
@@ -40,7 +40,13 @@ fn put_action(out: &mut [u8], at: usize, actions: &[u64], i: usize) -> usize
     ensures { λ r. ⌜ Put (actionLine (rowAt (now (actions .entry)) i)) (now (out .entry)) at (now (out .exit)) r ⌝ }
 {
     if actions[4 * i] == 1 {
-        return line::put_move(out, at, actions[4 * i + 1], actions[4 * i + 2], actions[4 * i + 3]);
+        return line::put_move(
+            out,
+            at,
+            actions[4 * i + 1],
+            actions[4 * i + 2],
+            actions[4 * i + 3],
+        );
     }
     line::put_wait(out, at, actions[4 * i + 1], actions[4 * i + 2])
 }
@@ -82,14 +88,21 @@ fn put_plan(out: &mut [u8], paths: &[u64], actions: &[u64]) -> usize
     ensures { λ r. ⌜ Put (planLines (now (paths .entry)) (now (actions .entry))) (now (out .entry)) 0 (now (out .exit)) r ⌝ }
 {
     let many = word_at(paths, 3);
-    let next = line::put_ok(out, word_at(paths, 0), word_at(paths, 1), word_at(paths, 2), many);
+    let next = line::put_ok(
+        out,
+        word_at(paths, 0),
+        word_at(paths, 1),
+        word_at(paths, 2),
+        many,
+    );
     let end = rows_end(paths, 1, many);
     put_paths(out, next, paths, end, actions)
 }
 
-// The text of a plan's rows where `number` is 0, else of the refusal that has this number.
+// The text of a plan's rows where `number` is 0, else of the refusal that has this number. Each line takes at most 87 bytes.
 pub fn put_answer(number: u64, paths: &[u64], actions: &[u64], out: &mut [u8]) -> Told
     ensures { λ r. ⌜ Tells (answerText number (now (paths .entry)) (now (actions .entry))) (now (out .entry)) (now (out .exit)) r ⌝ }
+    ensures { λ _. ⌜ length (answerText number (now (paths .entry)) (now (actions .entry))) ≤ 87 * (1 + length (now (paths .entry)) / 4 + length (now (actions .entry)) / 4) ⌝ }
 {
     if number != 0 {
         let end = line::put_refused(out, number);

@@ -2,11 +2,14 @@
 use crate::numerals;
 use crate::room;
 ghost use mathlib.Core.Path.{_≡_};
+ghost use Prim.Native.Nat.{_<_};
+ghost use lib.ListN.{length};
 ghost use Rattle.texts.specs.Room.{Put};
 ghost use Rattle.texts.specs.Lines.{okLine, pathLine, moveLine, waitLine, refusedLine};
 
-// Puts a word.
+// Puts a word. An empty one would leave a place far past the room's end as it is.
 fn put_word(out: &mut [u8], at: usize, word: &[u8]) -> usize
+    requires { ⌜ 0 < length (now word) ⌝ }
     ensures { λ r. ⌜ Put (now (word .entry)) (now (out .entry)) at (now (out .exit)) r ⌝ }
 {
     let mut next = at;
@@ -18,13 +21,7 @@ fn put_word(out: &mut [u8], at: usize, word: &[u8]) -> usize
     next
 }
 
-pub(crate) fn put_ok(
-    out: &mut [u8],
-    hints: u64,
-    times: u64,
-    sweeps: u64,
-    paths: u64,
-) -> usize
+pub(crate) fn put_ok(out: &mut [u8], hints: u64, times: u64, sweeps: u64, paths: u64) -> usize
     ensures { λ r. ⌜ Put (okLine hints times sweeps paths) (now (out .entry)) 0 (now (out .exit)) r ⌝ }
 {
     let mut at = put_word(out, 0, b"ok");
@@ -67,7 +64,7 @@ pub(crate) fn put_wait(out: &mut [u8], at: usize, obstacle: u64, end: u64) -> us
 pub(crate) fn put_refused(out: &mut [u8], number: u64) -> usize
     ensures { λ r. ⌜ Put (refusedLine number) (now (out .entry)) 0 (now (out .exit)) r ⌝ }
 {
-    let mut at = put_word(out, 0, b"refused");
-    at = numerals::put_count(out, at, number);
-    room::put_byte(out, at, b'\n')
+    let at = put_word(out, 0, b"refused");
+    let end = numerals::put_count(out, at, number);
+    room::put_byte(out, end, b'\n')
 }

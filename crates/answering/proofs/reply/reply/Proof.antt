@@ -47,9 +47,10 @@ returns c =
     let rows : length (b .plan .last .1 .0) ≡ 1160 = b .plan .kept .1 .0 in
     let more : length (b .plan .last .1 .1 .0) ≡ 6400 = b .plan .kept .1 .1 .0 in
     let short : length (answerText (b .plan .result) (b .plan .last .1 .0) (b .plan .last .1 .1 .0)) ≤ 164517 =
-          omega (arith, put .1, rows, more) in
-    (rw (handed .number, handed .room, handed .actions, same) at (put .0),
-    rw (handed .number, handed .room, handed .actions, same) at short)
+    omega (arith, put .1, rows, more) in (
+      rw (handed .number, handed .room, handed .actions, same) at (put .0),
+      rw (handed .number, handed .room, handed .actions, same) at short,
+    )
 
 pub reply-spec : {M : Type 1} → statement M
 reply-spec =

@@ -23,9 +23,10 @@ returns c =
     let b = c .before .before .before .before in
     let text : List ℕ = streamText (now (b .args .s)) in
     let told = c .before .reply .ensures in
-    let long : length (now (b .args .out)) ≡ 164517 = search needs in
-    (c .length-of .ensures ∙ ap lengthOf (rw long at (told .0 .told)) ∙ told-whole text 164517 (told .1),
-    (rw long at (told .0 .room)) ∙ room-fits text 164517 (told .1))
+    let long : length (now (b .args .out)) ≡ 164517 = search needs in (
+      c .length-of .ensures ∙ ap lengthOf (rw long at (told .0 .told)) ∙ told-whole text 164517 (told .1),
+      (rw long at (told .0 .room)) ∙ room-fits text 164517 (told .1),
+    )
 
 pub whole-reply-spec : {M : Type 1} → statement M
 whole-reply-spec = tie.close (tie.spec reply-requires length-of-requires returns)
