@@ -5,7 +5,7 @@ use mathlib.Core.Path.{_≡_, refl, sym, ap, subst, _∙_}
 use mathlib.Core.List.{List, [], _++_, append-assoc}
 use native.Mathlib.Numerals.{add-one}
 use native.Mathlib.Omega.{arith}
-use lib.ListN.{length, drop, getD, length-append, drop-of-length-le}
+use lib.ListN.{length, drop, replicate, getD, length-append, drop-of-length-le}
 use lib.Seq.{drop-cons}
 use Rattle.lists.specs.Rows.{withRows}
 use Rattle.lists.proofs.Fours.{length-rows}
@@ -16,15 +16,15 @@ use Rattle.ranking.specs.Hints.{blank}
 use Rattle.ranking.specs.declared.order.RankedHint.{RankedHint}
 use Rattle.ways.specs.Travel.{waypointOf}
 use Rattle.ways.specs.declared.trip.Trip.{Trip}
-use Rattle.plans.specs.Action.{actionWords, actionRows}
-use Rattle.plans.specs.Path.{Built, Of, Refused, stopped, ended, before, andOn, built, hintsAt, unheld}
-use Rattle.plans.specs.Laid.{Put, holdOf}
-use Rattle.plans.specs.declared.action.SafeAction.{SafeAction}
-use Rattle.plans.specs.declared.building.Hold.{Hold}
-use Rattle.plans.specs.declared.building.Hold.the-variants as H
-use Rattle.plans.proofs.Rowed.{actions-fours, rows-behind}
-use Rattle.plans.proofs.Known.{actionsOf, held-is, unheld-is}
-use Rattle.plans.proofs.Counted.{Counts, stopped-counts}
+use Rattle.actions.specs.Action.{actionWords, actionRows}
+use Rattle.actions.specs.Built.{Built, Of, Refused, stopped, ended, before, andOn, built, hintsAt, unheld}
+use Rattle.actions.specs.Laid.{Put, holdOf}
+use Rattle.actions.specs.declared.action.SafeAction.{SafeAction}
+use Rattle.actions.specs.declared.building.Hold.{Hold}
+use Rattle.actions.specs.declared.building.Hold.the-variants as H
+use Rattle.actions.proofs.Rowed.{actions-fours, rows-behind}
+use Rattle.actions.proofs.Known.{actionsOf, held-is, unheld-is}
+use Rattle.actions.proofs.Counted.{Counts, stopped-counts}
 
 before-none : (b : Built) → b ≡ before [] b
 before-none (Of actions hold) = refl
@@ -38,6 +38,10 @@ hold-before : (done : List SafeAction) (b : Built) → holdOf b ≡ holdOf (befo
 unfolding holdOf
 hold-before done (Of actions hold) = refl
 hold-before done (Refused n) = refl
+
+before-refused : (done : List SafeAction) (b : Built) (n : ℕ) → before done b ≡ Refused n → b ≡ Refused n
+before-refused done (Of actions hold) n e = cc
+before-refused done (Refused m) n e = e
 
 refused-on : (b : Built) (go : Duration → Built) (n : ℕ) → b ≡ Refused n → andOn b go ≡ b
 refused-on b go n e = rw e
@@ -103,6 +107,7 @@ module _
           hold = p .hold ∙ hold-before (g .done) b ∙ ap holdOf (sym w);
           long = p .long ∙ going-long;
           rows = rows-of b w (p .rows);
+          refused = λ n e. p .refused n (before-refused (g .done) b n (sym w ∙ e)) ∙ ap (λ k. replicate k 0) going-long;
         }
 
     at-end : length links ≤ k → rest from hold k ≡ ended trip from hold

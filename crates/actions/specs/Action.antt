@@ -4,8 +4,8 @@ use Prim.Native.Nat.{ℕ}
 use mathlib.Core.List.{List, [], _∷_, map}
 use lib.Ieee.{binary64, toBits}
 use Rattle.numbers.specs.Word.{wordOf}
-use Rattle.plans.specs.declared.action.SafeAction.{SafeAction}
-use Rattle.plans.specs.declared.action.SafeAction.the-variants.{Move, Wait}
+use Rattle.actions.specs.declared.action.SafeAction.{SafeAction}
+use Rattle.actions.specs.declared.action.SafeAction.the-variants.{Move, Wait}
 
 -- The row of an action: 1, the time and the bits of x and y for a move; 2, the obstacle and the end for a wait.
 unfoldable pub actionWords : SafeAction → List ℕ

@@ -1,12 +1,12 @@
--- `plans::action::put_action` meets its contract: the words of the action are put at its row.
+-- `actions::action::put_action` meets its contract: the words of the action are put at its row.
 -- Assumes nothing.
 use mathlib.Core.Path.{ap, _∙_}
 use borrow.Author.Needs.{needs}
 use Rattle.numbers.specs.Word.{wordOf}
 use Rattle.numbers.proofs.ReadBack.{read-back}
-use Rattle.plans.specs.Action.{actionWords}
-use Rattle.plans.proofs.action.put_action.Statement.{statement}
-use Rattle.plans.proofs.action.put_action.Tie as tie
+use Rattle.actions.specs.Action.{actionWords}
+use Rattle.actions.proofs.action.put_action.Statement.{statement}
+use Rattle.actions.proofs.action.put_action.Tie as tie
 
 enum-known-action : tie.Need-enum-known-action
 enum-known-action c = search needs

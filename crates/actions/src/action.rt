@@ -5,7 +5,7 @@ use numbers::word;
 use shapes::waypoint::Waypoint;
 ghost use mathlib.Core.Path.{_≡_};
 ghost use Rattle.lists.specs.Rows.{withRow};
-ghost use Rattle.plans.specs.Action.{actionWords};
+ghost use Rattle.actions.specs.Action.{actionWords};
 
 // Moving to a waypoint, or waiting for an obstacle until an instant.
 pub enum SafeAction {

@@ -2,6 +2,7 @@
 use crate::action;
 use crate::action::SafeAction;
 use chains::tried::Chain;
+use lists::words;
 use numbers::time::Duration;
 use numbers::time::Span;
 use numbers::time::TimePoint;
@@ -12,12 +13,13 @@ use ways::travel;
 use ways::travel::Reached;
 use ways::trip::Trip;
 ghost use mathlib.Core.Path.{_≡_};
-ghost use Prim.Native.Nat.{_≤_};
+ghost use Prim.Native.Nat.{_≤_, _/_, min};
+ghost use lib.ListN.{length};
 ghost use lib.IntN.{pos};
 ghost use Rattle.ranking.specs.Hints.{held};
 ghost use Rattle.chains.specs.Handed.{linksIn};
-ghost use Rattle.plans.specs.Path.{holdAfter, stopped, ended, built, hintsAt};
-ghost use Rattle.plans.specs.Laid.{Put};
+ghost use Rattle.actions.specs.Built.{Refused, holdAfter, stopped, ended, built, hintsAt};
+ghost use Rattle.actions.specs.Laid.{Put};
 
 // The hold of a path, or a refusal and its number.
 pub enum Hold {
@@ -36,6 +38,14 @@ fn hold_after(hold: Duration, arrival: TimePoint, until: TimePoint) -> Span
     hold.plus(wait)
 }
 
+// A refusal's number alone: no word of the room is kept.
+fn refuse(out: &mut [u64], number: u64) -> Hold
+    ensures { λ r. ⌜ Put (Refused number) (now (out .entry)) (now (out .exit)) 0 r ⌝ }
+{
+    words::wipe_from(out, 0);
+    Hold::Refused(number)
+}
+
 // Moving from a waypoint to a hint's place and waiting there: two rows, and the hold with this wait.
 fn put_stop(
     trip: Trip,
@@ -45,18 +55,18 @@ fn put_stop(
     out: &mut [u64],
     row: usize,
 ) -> Hold
-    requires { ⌜ row ≤ 1_000_000 ⌝ }
+    requires { ⌜ row ≤ 4_611_686_018_427_387_904 ⌝ }
     ensures { λ r. ⌜ Put (stopped trip from hint hold) (now (out .entry)) (now (out .exit)) row r ⌝ }
 {
     let place = hint.place;
     let until = hint.until;
     let arrival = travel::arrival_at(trip.speed, from, place);
     match arrival {
-        Reached::Refused(n) => Hold::Refused(n),
+        Reached::Refused(n) => refuse(out, n),
         Reached::At(w) => {
             let held = hold_after(hold, w.time, until);
             let Span::Of(sum) = held else {
-                return Hold::Refused(7);
+                return refuse(out, 7);
             };
             action::put_action(out, row, SafeAction::Move(w));
             action::put_action(out, row + 1, SafeAction::Wait(hint.obstacle, until));
@@ -73,7 +83,7 @@ fn put_end(trip: Trip, from: Waypoint, hold: Duration, out: &mut [u64], row: usi
     let goal = leg.end;
     let arrival = travel::arrival_at(trip.speed, from, goal.place());
     match arrival {
-        Reached::Refused(n) => Hold::Refused(n),
+        Reached::Refused(n) => refuse(out, n),
         Reached::At(w) => {
             action::put_action(out, row, SafeAction::Move(w));
             Hold::Of(hold)
@@ -81,22 +91,26 @@ fn put_end(trip: Trip, from: Waypoint, hold: Duration, out: &mut [u64], row: usi
     }
 }
 
-// The actions of a whole path from `row` on: two for each hint of the chain, and the last move.
-pub(crate) fn build(
-    trip: Trip,
-    hints: RankedHints,
-    chain: Chain,
-    out: &mut [u64],
-    row: usize,
-) -> Hold
-    requires { ⌜ row ≤ 100_000 ⌝ }
+// A row past the room puts nothing, as one at its end does.
+fn place(out: &[u64], row: usize) -> usize
+    ensures { λ r. ⌜ r ≡ min row (length (now (out .entry)) / 4) ⌝ }
+{
+    let end = out.len() / 4;
+    if row < end {
+        return row;
+    }
+    end
+}
+
+// The actions of a whole path from `row` on: two for each hint of the chain, and the last move. A refusal keeps no word.
+pub fn build(trip: Trip, hints: RankedHints, chain: Chain, out: &mut [u64], row: usize) -> Hold
     ensures { λ r. ⌜ Put (built trip (trip .leg .start) (record { 0 = pos 0 }) (hintsAt (held hints) (linksIn chain))) (now (out .entry)) (now (out .exit)) row r ⌝ }
 {
     let leg = trip.leg;
     let n = chain.len();
     let mut from = leg.start;
     let mut hold = Duration(0);
-    let mut at = row;
+    let mut at = place(out, row);
     let mut k = 0;
     while k < n {
         let ranked = hints.at(chain.all[k]);

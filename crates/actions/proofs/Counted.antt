@@ -19,9 +19,9 @@ use Rattle.ways.specs.Travel.{waypointOf, reachedFrom}
 use Rattle.ways.specs.declared.travel.Reached.{Reached}
 use Rattle.ways.specs.declared.travel.Reached.the-variants as W
 use Rattle.ways.specs.declared.trip.Trip.{Trip}
-use Rattle.plans.specs.Path.{Built, Of, Refused, reaching, spanning, before, andOn}
-use Rattle.plans.specs.Path.{holdAfter, stopped, ended, built, hintsAt, unheld}
-use Rattle.plans.specs.declared.action.SafeAction.{SafeAction}
+use Rattle.actions.specs.Built.{Built, Of, Refused, reaching, spanning, before, andOn}
+use Rattle.actions.specs.Built.{holdAfter, stopped, ended, built, hintsAt, unheld}
+use Rattle.actions.specs.declared.action.SafeAction.{SafeAction}
 
 -- So many actions, where it is no refusal.
 abbrev pub Counts : ℕ → Built → Type 0

@@ -1,14 +1,14 @@
--- `plans::building::put_end` meets its contract: a row for the move to the goal, or the refusal of its time.
+-- `actions::building::put_end` meets its contract: a row for the move to the goal, or the refusal of its time.
 -- Assumes nothing.
 use mathlib.Core.Path.{_≡_, sym, _∙_}
 use borrow.Author.Needs.{needs}
 use Rattle.shapes.specs.Leg.{placeOf}
 use Rattle.ways.specs.Travel.{reachedFrom}
-use Rattle.plans.specs.Path.{ended}
-use Rattle.plans.specs.declared.action.SafeAction.the-variants.{Move}
-use Rattle.plans.proofs.Left.{one-row, put-nothing, put-rows}
-use Rattle.plans.proofs.building.put_end.Statement.{statement}
-use Rattle.plans.proofs.building.put_end.Tie as tie
+use Rattle.actions.specs.Built.{ended}
+use Rattle.actions.specs.declared.action.SafeAction.the-variants.{Move}
+use Rattle.actions.proofs.Left.{one-row, put-nothing, put-rows}
+use Rattle.actions.proofs.building.put_end.Statement.{statement}
+use Rattle.actions.proofs.building.put_end.Tie as tie
 
 place-requires : tie.Need-place-requires
 place-requires c κs = search needs
@@ -18,6 +18,9 @@ arrival-at-requires c κs = search needs
 
 enum-known-arrival : tie.Need-enum-known-arrival
 enum-known-arrival c = search needs
+
+refuse-requires : tie.Need-refuse-requires
+refuse-requires c κs = search needs
 
 enum-known-arrival-2 : tie.Need-enum-known-arrival-2
 enum-known-arrival-2 c = search needs
@@ -31,14 +34,17 @@ reached : (c : tie.After-arrival-at) →
     reachedFrom (a .trip .speed) (a .from) (placeOf (a .trip .leg .end)) ≡ c .arrival-at .result
 reached c = rw (← c .before .place .ensures) (sym (c .arrival-at .ensures))
 
+same-length : tie.Need-same-length
+same-length c = search needs
+
 returns : tie.Need-returns
 unfolding ended
 returns c =
-    let w = c .before in
-    rw (reached (w .before .before) ∙ w .arrival .given .1) (put-nothing _)
+    let w = c .before .before .before .before .before in
+    rw (reached (w .before .before) ∙ w .arrival .given .1) (put-nothing _ (c .before .before .refuse .ensures))
 
-same-length : tie.Need-same-length
-same-length c = search needs
+same-length-2 : tie.Need-same-length-2
+same-length-2 c = search needs
 
 returns-2 : tie.Need-returns-2
 unfolding ended
@@ -55,8 +61,10 @@ put-end-spec =
     place-requires
     arrival-at-requires
     enum-known-arrival
+    refuse-requires
     enum-known-arrival-2
     put-action-requires
-    returns
     same-length
+    returns
+    same-length-2
     returns-2)

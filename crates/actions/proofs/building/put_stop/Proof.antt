@@ -1,18 +1,21 @@
--- `plans::building::put_stop` meets its contract: a row each for the move and the wait, or a refusal.
+-- `actions::building::put_stop` meets its contract: a row each for the move and the wait, or a refusal.
 -- Assumes nothing.
 use mathlib.Core.Path.{sym, _∙_}
 use borrow.Author.Needs.{needs}
-use Rattle.plans.specs.Path.{stopped}
-use Rattle.plans.specs.declared.action.SafeAction.the-variants.{Move, Wait}
-use Rattle.plans.proofs.Left.{two-rows, put-nothing, put-rows}
-use Rattle.plans.proofs.building.put_stop.Statement.{statement}
-use Rattle.plans.proofs.building.put_stop.Tie as tie
+use Rattle.actions.specs.Built.{stopped}
+use Rattle.actions.specs.declared.action.SafeAction.the-variants.{Move, Wait}
+use Rattle.actions.proofs.Left.{two-rows, put-nothing, put-rows}
+use Rattle.actions.proofs.building.put_stop.Statement.{statement}
+use Rattle.actions.proofs.building.put_stop.Tie as tie
 
 arrival-at-requires : tie.Need-arrival-at-requires
 arrival-at-requires c κs = search needs
 
 enum-known-arrival : tie.Need-enum-known-arrival
 enum-known-arrival c = search needs
+
+refuse-requires : tie.Need-refuse-requires
+refuse-requires c κs = search needs
 
 enum-known-arrival-2 : tie.Need-enum-known-arrival-2
 enum-known-arrival-2 c = search needs
@@ -26,16 +29,23 @@ enum-known-held c = search needs
 enum-told : tie.Need-enum-told
 enum-told c = search needs
 
+refuse-requires-2 : tie.Need-refuse-requires-2
+refuse-requires-2 c κs = search needs
+
+same-length : tie.Need-same-length
+same-length c = search needs
+
 returns : tie.Need-returns
 unfolding stopped
 returns c =
-    let h = c .before .before in
+    let told = c .before .before .before .before in
+    let h = told .before .before in
     let w = h .before .before in
     rw (
       sym (w .before .before .arrival-at .ensures) ∙ w .arrival2 .given .1,
-      sym (h .hold-after .ensures) ∙ c .enum-told .given .1,
+      sym (h .hold-after .ensures) ∙ told .enum-told .given .1,
     )
-    (put-nothing 7)
+    (put-nothing 7 (c .before .before .refuse2 .ensures))
 
 put-action-requires : tie.Need-put-action-requires
 put-action-requires c κs = search needs
@@ -46,14 +56,18 @@ add-put-action c = search needs
 put-action-requires-2 : tie.Need-put-action-requires-2
 put-action-requires-2 c κs = search needs
 
+same-length-2 : tie.Need-same-length-2
+same-length-2 c = search needs
+
 returns-2 : tie.Need-returns-2
 unfolding stopped
 returns-2 c =
-    let w = c .before in
-    rw (sym (w .before .before .arrival-at .ensures) ∙ w .arrival .given .1) (put-nothing _)
+    let w = c .before .before .before .before .before in
+    rw (sym (w .before .before .arrival-at .ensures) ∙ w .arrival .given .1)
+    (put-nothing _ (c .before .before .refuse .ensures))
 
-same-length : tie.Need-same-length
-same-length c = search needs
+same-length-3 : tie.Need-same-length-3
+same-length-3 c = search needs
 
 returns-3 : tie.Need-returns-3
 unfolding stopped
@@ -79,14 +93,18 @@ put-stop-spec =
     (tie.spec
     arrival-at-requires
     enum-known-arrival
+    refuse-requires
     enum-known-arrival-2
     hold-after-requires
     enum-known-held
     enum-told
+    refuse-requires-2
+    same-length
     returns
     put-action-requires
     add-put-action
     put-action-requires-2
+    same-length-2
     returns-2
-    same-length
+    same-length-3
     returns-3)

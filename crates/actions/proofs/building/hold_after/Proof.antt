@@ -1,10 +1,10 @@
--- `plans::building::hold_after` meets its contract: the wait and the sum are the definition's, and so are its refusals.
+-- `actions::building::hold_after` meets its contract: the wait and the sum are the definition's, and so are its refusals.
 -- Assumes nothing.
 use mathlib.Core.Path.{sym, _∙_}
 use borrow.Author.Needs.{needs}
-use Rattle.plans.specs.Path.{holdAfter}
-use Rattle.plans.proofs.building.hold_after.Statement.{statement}
-use Rattle.plans.proofs.building.hold_after.Tie as tie
+use Rattle.actions.specs.Built.{holdAfter}
+use Rattle.actions.proofs.building.hold_after.Statement.{statement}
+use Rattle.actions.proofs.building.hold_after.Tie as tie
 
 since-requires : tie.Need-since-requires
 since-requires c κs = search needs
