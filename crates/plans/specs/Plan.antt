@@ -25,10 +25,10 @@ use Rattle.arrivals.specs.Search as A
 use Rattle.search.specs.Watched.{arrivalsAt}
 use Rattle.ways.specs.declared.trip.Trip.{Trip}
 use Rattle.actions.specs.Built.{unheld}
-use Rattle.arrival_paths.specs.Path as P
-pub use Rattle.arrival_paths.specs.Asked.{tripOf}
 use Rattle.actions.specs.declared.action.SafeAction.{SafeAction}
 use Rattle.actions.specs.declared.action.SafeAction.the-variants.{Move}
+use Rattle.arrival_paths.specs.Path as P
+pub use Rattle.arrival_paths.specs.Asked.{tripOf}
 
 -- A path, the arrival time that it is for, its pops and its hold.
 pub record Path : Type 0 where
