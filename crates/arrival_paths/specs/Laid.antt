@@ -17,8 +17,8 @@ foundOf (Path actions pops hold) = F.Path (length actions) pops hold
 foundOf (Missing pops) = F.Missing pops
 foundOf (Refused n) = F.Refused n
 
--- The rows of a path from a place on, as far as there is room; the room as it was where there is none, zero throughout on a refusal
--- (RULES 4.14).
+-- The rows of a path from a place on, as far as there is room; the room as it was where there is no path; zero throughout on a
+-- refusal (RULES 4.14).
 pub record PutPath (answer : Sought) (lent left : List ℕ) (row : ℕ) (r : Found) : Type 0 where
   pub found : r ≡ foundOf answer
   pub long : length left ≡ length lent

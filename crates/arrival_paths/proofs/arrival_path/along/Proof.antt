@@ -1,4 +1,4 @@
--- `arrival_paths::arrival_path::along` meets its contract: two actions for each hint of the chain and the last move, or a refusal.
+-- `arrival_paths::arrival_path::along` meets its contract: two actions for each hint and the last move, or a refusal.
 -- Assumes nothing.
 use Prim.Native.Nat.{_≤_}
 use mathlib.Core.Path.{_≡_}

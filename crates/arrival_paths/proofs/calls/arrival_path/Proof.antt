@@ -1,4 +1,5 @@
--- `arrival_paths::calls::arrival_path` meets its contract: the refusal of its input, 4 for a brief leg, or the path among its obstacles.
+-- `arrival_paths::calls::arrival_path` meets its contract: the refusal of its input, 4 for a brief leg, or the path among its
+-- obstacles.
 -- Assumes nothing.
 use mathlib.Core.Path.{_≡_, sym, _∙_}
 use mathlib.Core.Bool.{_&&_}
