@@ -1,11 +1,11 @@
 // The paths: the agent comes as plain numbers, the table of obstacles as lent lists, lent hints as words.
 use crate::shape_calls;
 use numbers::time::TimePoint;
-use plans::calls;
 use shapes::profile::CircularProfile;
 ghost use Rattle.lists.specs.Outcome.{Handed};
 ghost use Rattle.obstacles.specs.Lent.{lentOf};
-ghost use Rattle.plans.specs.Asked.{askedPath, pathOutcome, askedPlan};
+ghost use Rattle.arrival_paths.specs.Asked.{askedPath, pathOutcome};
+ghost use Rattle.plans.specs.Asked.{askedPlan};
 ghost use Rattle.plans.specs.Laid.{PlanHanded};
 ghost use Rattle.exports.specs.Plain.{instantOf, legOf, profileOf};
 
@@ -35,7 +35,7 @@ pub extern "C" fn igelbert_arrival_path(
     let p = CircularProfile { footprint, follow };
     let agent = shape_calls::leg_of(t0, x0, y0, t1, x1, y1);
     let asked = TimePoint(arrival);
-    calls::arrival_path(
+    arrival_paths::calls::arrival_path(
         p,
         agent,
         asked,
@@ -74,7 +74,7 @@ pub extern "C" fn igelbert_linear_paths(
 {
     let p = CircularProfile { footprint, follow };
     let agent = shape_calls::leg_of(t0, x0, y0, t1, x1, y1);
-    calls::linear_paths(
+    plans::calls::linear_paths(
         p,
         agent,
         budget,

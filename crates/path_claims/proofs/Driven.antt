@@ -17,8 +17,8 @@ use Rattle.chains.proofs.Links.{way-back}
 use Rattle.ways.specs.Travel.{waypointOf}
 use Rattle.ways.specs.declared.trip.Trip.{Trip}
 use Rattle.paths.specs.Trying.{stopIn, toParent, startsAt, reaches, chainFrom}
-use Rattle.plans.specs.Path.{Of, built, hintsAt, unheld}
-use Rattle.plans.specs.declared.action.SafeAction.{SafeAction}
+use Rattle.actions.specs.Built.{Of, built, hintsAt, unheld}
+use Rattle.actions.specs.declared.action.SafeAction.{SafeAction}
 use Rattle.path_claims.specs.Driven.{still, SafeFrom}
 use Rattle.path_claims.proofs.Chain.{Leads, begun}
 use Rattle.path_claims.proofs.Parts.{Stop, SafeStop, stop, arrived, reached-there, end-passed, start-passed, goal-passed}

@@ -19,9 +19,10 @@ use Rattle.chains.specs.Answer.{Way}
 use Rattle.chains.specs.Handed.{chainOf, linksIn}
 use Rattle.ways.specs.declared.trip.Trip.{Trip}
 use Rattle.paths.specs.Trying.{stopIn, toParent, startsAt, reaches, chainFrom}
-use Rattle.plans.specs.Path.{Path, Of, built, hintsAt, unheld, pathFor}
-use Rattle.plans.specs.declared.action.SafeAction.{SafeAction}
-use Rattle.plans.specs.declared.action.SafeAction.the-variants.{Move, Wait}
+use Rattle.actions.specs.Built.{Of, built, hintsAt, unheld}
+use Rattle.actions.specs.declared.action.SafeAction.{SafeAction}
+use Rattle.actions.specs.declared.action.SafeAction.the-variants.{Move, Wait}
+use Rattle.arrival_paths.specs.Path.{Path, pathFor}
 use Rattle.path_claims.specs.Origin.{Origin, direct, along}
 use Rattle.path_claims.proofs.Chain.{begun, first-back}
 use Rattle.path_claims.proofs.Origin.{origin}

@@ -12,8 +12,8 @@ use Rattle.obstacles.specs.Obstacle.{Obstacle}
 use Rattle.ranking.specs.declared.order.RankedHint.{RankedHint}
 use Rattle.arrivals.specs.Sweeps.{All, Rising}
 use Rattle.ways.specs.declared.trip.Trip.{Trip}
-use Rattle.plans.specs.Path as P
-use Rattle.plans.specs.Path.{pathFor}
+use Rattle.arrival_paths.specs.Path as P
+use Rattle.arrival_paths.specs.Path.{pathFor}
 use Rattle.plans.specs.Plan.{Path, Paths, Of, Refused, first, sought, pathsFor}
 use Rattle.path_claims.specs.Whole.{arrivalsOf, InTurn, ended, found, missing}
 

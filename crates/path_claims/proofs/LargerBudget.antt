@@ -41,9 +41,10 @@ use Rattle.ways.specs.declared.roots.Contour.{Contour}
 use Rattle.ways.specs.declared.roots.Contour.the-variants as C
 use Rattle.ways.specs.declared.trip.Trip.{Trip}
 use Rattle.paths.specs.Trying.{chainFrom}
-use Rattle.plans.specs.Asked.{isBudget, withNumbers, askedPlan}
-use Rattle.plans.specs.Path as P
-use Rattle.plans.specs.Path.{Sought, taken, contoured, byHints, pathFor}
+use Rattle.arrival_paths.specs.Asked.{isBudget, withNumbers}
+use Rattle.arrival_paths.specs.Path as P
+use Rattle.arrival_paths.specs.Path.{Sought, taken, contoured, byHints, pathFor}
+use Rattle.plans.specs.Asked.{askedPlan}
 use Rattle.plans.specs.Plan as Q
 use Rattle.plans.specs.Plan.{Path, Paths, Plan, first, sought, scaled, timed, planned, tripOf, pathsFor}
 use Rattle.plans.specs.Plan.{pathsPlanned, timesPlanned, hintsPlanned, longPlan, planOf}

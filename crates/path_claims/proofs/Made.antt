@@ -24,7 +24,8 @@ use Rattle.hints.specs.declared.contour.Scaling.{Scaling}
 use Rattle.hints.specs.declared.contour.Scaling.the-variants as L
 use Rattle.arrivals.specs.Search as A
 use Rattle.search.specs.Watched.{arrivalsAt}
-use Rattle.plans.specs.Asked.{isBudget, withNumbers, askedPlan}
+use Rattle.arrival_paths.specs.Asked.{isBudget, withNumbers}
+use Rattle.plans.specs.Asked.{askedPlan}
 use Rattle.plans.specs.Plan.{Path, Paths, Of, Planned, Refused, scaled, timed, planned, tripOf, pathsFor}
 use Rattle.plans.specs.Plan.{pathsPlanned, timesPlanned, hintsPlanned, longPlan, planOf}
 

@@ -49,10 +49,12 @@ use Rattle.ways.specs.Tests.{toEnd, toGoal, waitsAt, fromStart, straight}
 use Rattle.ways.specs.Travel.{waypointOf, reachedFrom}
 use Rattle.ways.specs.Way.{wayOf, bothWays}
 use Rattle.paths.specs.Trying.{stopIn, toParent, startsAt, chainFrom}
-use Rattle.plans.specs.Action.{actionWords}
-use Rattle.plans.specs.Asked.{isBudget, withNumbers, askedPlan}
+use Rattle.actions.specs.Action.{actionWords}
+use Rattle.actions.specs.Built.{holdAfter, stopped, ended, built, hintsAt}
+use Rattle.arrival_paths.specs.Asked.{isBudget, withNumbers}
+use Rattle.arrival_paths.specs.Path.{alongHints, taken, byHints, pathFor}
+use Rattle.plans.specs.Asked.{askedPlan}
 use Rattle.plans.specs.Laid.{planNumber, planRoom, actionRoomOf}
-use Rattle.plans.specs.Path.{holdAfter, stopped, ended, built, hintsAt, alongHints, taken, byHints, pathFor}
 use Rattle.plans.specs.Plan.{pathsFor, pathsPlanned, timesPlanned, hintsPlanned, longPlan, shortPlan, planOf, allActions}
 use Rattle.path_claims.specs.Marked.{Marked}
 

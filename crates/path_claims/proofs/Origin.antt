@@ -22,10 +22,12 @@ use Rattle.ways.specs.declared.roots.Contour.{Contour}
 use Rattle.ways.specs.declared.roots.Contour.the-variants as C
 use Rattle.ways.specs.declared.trip.Trip.{Trip}
 use Rattle.paths.specs.Trying.{chainFrom}
-use Rattle.plans.specs.Path as P
-use Rattle.plans.specs.Path.{Path, Missing, Built, built, hintsAt, unheld, withPops, alongHints, taken, contoured, byHints, pathFor}
-use Rattle.plans.specs.declared.action.SafeAction.{SafeAction}
-use Rattle.plans.specs.declared.action.SafeAction.the-variants.{Move}
+use Rattle.actions.specs.Built as B
+use Rattle.actions.specs.Built.{Built, built, hintsAt, unheld}
+use Rattle.actions.specs.declared.action.SafeAction.{SafeAction}
+use Rattle.actions.specs.declared.action.SafeAction.the-variants.{Move}
+use Rattle.arrival_paths.specs.Path as P
+use Rattle.arrival_paths.specs.Path.{Path, Missing, withPops, alongHints, taken, contoured, byHints, pathFor}
 use Rattle.path_claims.specs.Origin.{Origin, direct, along}
 
 module _ {actions : List SafeAction} {pops : ℕ} {hold : Duration} where
@@ -36,9 +38,9 @@ module _ {actions : List SafeAction} {pops : ℕ} {hold : Duration} where
   not-refused e = true≢false (cc e)
 
   -- What is built is a path's actions and hold, and the pops are those it is given.
-  made : (n : ℕ) (b : Built) → withPops n b ≡ Path actions pops hold → (b ≡ P.Of actions hold) × (n ≡ pops)
-  made n (P.Of done sum) e = (cc e, cc e)
-  made n (P.Refused m) e = absurd (not-refused e)
+  made : (n : ℕ) (b : Built) → withPops n b ≡ Path actions pops hold → (b ≡ B.Of actions hold) × (n ≡ pops)
+  made n (B.Of done sum) e = (cc e, cc e)
+  made n (B.Refused m) e = absurd (not-refused e)
 
   module _ (trip : Trip) (os : List Obstacle) (hints : List RankedHint) (budget : ℕ) (arrival : TimePoint) where
     by-answer : (first : Option ℕ) → straight trip os arrival ≡ T.Failed → (a : Answer) → chainFrom trip os hints budget first ≡ a →

@@ -32,9 +32,9 @@ use Rattle.ways.specs.Way.{wayOf, next, bothWays}
 use Rattle.ways.specs.declared.travel.Reached.{Reached}
 use Rattle.ways.specs.declared.travel.Reached.the-variants as W
 use Rattle.ways.specs.declared.trip.Trip.{Trip}
-use Rattle.plans.specs.Path.{Built, Of, Refused, reaching, spanning, holdAfter, stopped, ended, before, andOn, built}
-use Rattle.plans.specs.declared.action.SafeAction.{SafeAction}
-use Rattle.plans.specs.declared.action.SafeAction.the-variants.{Move, Wait}
+use Rattle.actions.specs.Built.{Built, Of, Refused, reaching, spanning, holdAfter, stopped, ended, before, andOn, built}
+use Rattle.actions.specs.declared.action.SafeAction.{SafeAction}
+use Rattle.actions.specs.declared.action.SafeAction.the-variants.{Move, Wait}
 
 -- ---- Travel.
 

@@ -10,8 +10,8 @@ use Rattle.obstacles.specs.Obstacle.{Obstacle}
 use Rattle.chains.specs.declared.trial.Trial.the-variants.{Passed}
 use Rattle.ways.specs.Way.{wayOf}
 use Rattle.ways.specs.declared.trip.Trip.{Trip}
-use Rattle.plans.specs.declared.action.SafeAction.{SafeAction}
-use Rattle.plans.specs.declared.action.SafeAction.the-variants.{Move, Wait}
+use Rattle.actions.specs.declared.action.SafeAction.{SafeAction}
+use Rattle.actions.specs.declared.action.SafeAction.the-variants.{Move, Wait}
 
 -- The same place at another time.
 abbrev pub still : Waypoint → TimePoint → Waypoint

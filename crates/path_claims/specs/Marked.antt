@@ -17,10 +17,10 @@ use Rattle.conflicts.specs.declared.conflict.Verdict.the-variants as J
 use Rattle.obstacles.specs.Lent.{Lent, lentOf}
 use Rattle.ranking.specs.Hints.{held}
 use Rattle.hints.specs.Asked.{askedHints}
+use Rattle.actions.specs.declared.action.SafeAction.the-variants.{Move, Wait}
 use Rattle.plans.specs.Asked.{askedPlan}
 use Rattle.plans.specs.Laid.{planNumber, planRoom, actionRoomOf}
 use Rattle.plans.specs.Plan.{Plan, Planned, Refused}
-use Rattle.plans.specs.declared.action.SafeAction.the-variants.{Move, Wait}
 
 -- ---- Numbers.
 

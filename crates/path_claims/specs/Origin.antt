@@ -14,9 +14,9 @@ use Rattle.chains.specs.declared.trial.Trial.the-variants as T
 use Rattle.ways.specs.Tests.{straight}
 use Rattle.ways.specs.declared.trip.Trip.{Trip}
 use Rattle.paths.specs.Trying.{chainFrom}
-use Rattle.plans.specs.Path.{Of, built, hintsAt, unheld}
-use Rattle.plans.specs.declared.action.SafeAction.{SafeAction}
-use Rattle.plans.specs.declared.action.SafeAction.the-variants.{Move}
+use Rattle.actions.specs.Built.{Of, built, hintsAt, unheld}
+use Rattle.actions.specs.declared.action.SafeAction.{SafeAction}
+use Rattle.actions.specs.declared.action.SafeAction.the-variants.{Move}
 
 module _ (trip : Trip) (os : List Obstacle) (hints : List RankedHint) (budget : ℕ) (arrival : TimePoint) where
   -- The direct path passed its test, and is one Move to the goal with no pops and no hold; or it failed, a chain of hints was found

@@ -26,12 +26,13 @@ use Rattle.search.specs.Asked.{askedArrivals}
 use Rattle.chains.specs.declared.trial.Trial.the-variants as T
 use Rattle.ways.specs.Tests.{straight}
 use Rattle.ways.specs.declared.trip.Trip.{Trip}
+use Rattle.actions.specs.Built.{unheld}
+use Rattle.actions.specs.declared.action.SafeAction.{SafeAction}
+use Rattle.actions.specs.declared.action.SafeAction.the-variants.{Move, Wait}
+use Rattle.arrival_paths.specs.Path as P
+use Rattle.arrival_paths.specs.Path.{pathFor}
 use Rattle.plans.specs.Asked.{askedPlan}
-use Rattle.plans.specs.Path as P
-use Rattle.plans.specs.Path.{pathFor, unheld}
 use Rattle.plans.specs.Plan.{Path, Planned, tripOf, shortPlan}
-use Rattle.plans.specs.declared.action.SafeAction.{SafeAction}
-use Rattle.plans.specs.declared.action.SafeAction.the-variants.{Move, Wait}
 use Rattle.path_claims.specs.Driven.{SafeFrom}
 
 -- ---- Paths.

@@ -12,8 +12,8 @@ use Rattle.obstacles.specs.Lent.{Lent, obstaclesOf}
 use Rattle.obstacles.specs.Examined.{isFew, agentExamined}
 use Rattle.obstacles.proofs.Counting.{obstacles-count}
 use Rattle.obstacles.proofs.Shaped.{shaped-few, fine-shaped, few-obstacles}
-use Rattle.plans.specs.Asked.{withNumbers}
-use Rattle.plans.proofs.Fine.{numbers-fine}
+use Rattle.arrival_paths.specs.Asked.{withNumbers}
+use Rattle.arrival_paths.proofs.Fine.{numbers-fine}
 
 pub fine-few : (ok : Bool) (p : CircularProfile) (agent : Leg) (lent : Lent) →
     withNumbers ok (agentExamined p agent lent) ≡ Fine → isFew (obstaclesOf lent) ≡ true

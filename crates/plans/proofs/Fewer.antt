@@ -12,8 +12,8 @@ use Rattle.numbers.specs.declared.time.TimePoint.{TimePoint}
 use Rattle.obstacles.specs.Obstacle.{Obstacle}
 use Rattle.ranking.specs.declared.order.RankedHint.{RankedHint}
 use Rattle.ways.specs.declared.trip.Trip.{Trip}
-use Rattle.plans.specs.Path as P
-use Rattle.plans.specs.Path.{Sought, pathFor}
+use Rattle.arrival_paths.specs.Path as P
+use Rattle.arrival_paths.specs.Path.{Sought, pathFor}
 use Rattle.plans.specs.Plan as Q
 use Rattle.plans.specs.Plan.{Path, Of, Refused, first, sought, pathsFor, instantsOf}
 use Rattle.plans.specs.Laid.{PutPaths, countsOf}

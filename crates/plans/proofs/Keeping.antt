@@ -16,18 +16,19 @@ use Rattle.numbers.specs.declared.time.TimePoint.{TimePoint}
 use Rattle.obstacles.specs.Obstacle.{Obstacle}
 use Rattle.ranking.specs.declared.order.RankedHint.{RankedHint}
 use Rattle.ways.specs.declared.trip.Trip.{Trip}
-use Rattle.plans.specs.Action.{actionWords, actionRows}
-use Rattle.plans.specs.Path as P
-use Rattle.plans.specs.Path.{Sought, pathFor}
+use Rattle.actions.specs.Action.{actionWords, actionRows}
+use Rattle.actions.specs.declared.action.SafeAction.{SafeAction}
+use Rattle.actions.proofs.Rowed.{actions-fours, rows-behind}
+use Rattle.arrival_paths.specs.Path as P
+use Rattle.arrival_paths.specs.Path.{Sought, pathFor}
+use Rattle.arrival_paths.specs.Laid.{PutPath}
+use Rattle.arrival_paths.specs.declared.arrival_path.Found.{Found}
+use Rattle.arrival_paths.specs.declared.arrival_path.Found.the-variants as F
+use Rattle.arrival_paths.proofs.Known.{actionsIn, path-is, path-counts, missing-is, refused-is}
+use Rattle.arrival_paths.proofs.Short.{path-short}
 use Rattle.plans.specs.Plan.{Path, Paths, Of, Refused, first, sought, pathsFor, instantsOf, pathWords, pathRows, allActions}
-use Rattle.plans.specs.Laid.{PutPath, PutPaths, countsOf}
-use Rattle.plans.specs.declared.action.SafeAction.{SafeAction}
-use Rattle.plans.specs.declared.arrival_path.Found.{Found}
-use Rattle.plans.specs.declared.arrival_path.Found.the-variants as F
+use Rattle.plans.specs.Laid.{PutPaths, countsOf}
 use Rattle.plans.specs.declared.linear_paths.Paths.the-variants as R
-use Rattle.plans.proofs.Rowed.{actions-fours, rows-behind}
-use Rattle.plans.proofs.Known.{actionsIn, path-is, path-counts, missing-is, refused-is}
-use Rattle.plans.proofs.Short.{path-short}
 
 -- ---- Paths behind others.
 

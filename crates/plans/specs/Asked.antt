@@ -1,84 +1,14 @@
--- What the calls for one path alone and for a whole plan answer: their input is examined first (RULES 4.13, 5.1 to 5.7).
+-- What the call for a whole plan answers: its input is examined first (RULES 5.1 to 5.7).
 -- Assumes nothing.
 use Prim.Native.Nat.{ℕ}
-use mathlib.Core.Bool.{Bool, cond, _&&_}
-use mathlib.Core.List.{List, [], _∷_, _++_}
-use lib.Dec.{leb, eqb}
-use lib.ListN.{length}
-use Rattle.lists.specs.Outcome.{Outcome, Gives, Refuses}
-use Rattle.lists.specs.Rows.{wordsIn}
-use Rattle.numbers.specs.Word.{wordOf}
-use Rattle.numbers.specs.declared.time.TimePoint.{TimePoint}
-use Rattle.shapes.specs.Domain.{isTime}
-use Rattle.shapes.specs.Leg.{isBrief}
 use Rattle.shapes.specs.declared.domain.Examined.{Examined}
 use Rattle.shapes.specs.declared.domain.Examined.the-variants as X
 use Rattle.shapes.specs.declared.profile.CircularProfile.{CircularProfile}
 use Rattle.shapes.specs.declared.waypoint.Leg.{Leg}
 use Rattle.obstacles.specs.Lent.{Lent, obstaclesOf}
-use Rattle.obstacles.specs.Obstacle.{Obstacle}
 use Rattle.obstacles.specs.Examined.{agentExamined}
-use Rattle.ranking.specs.Hints.{held}
-use Rattle.ranking.specs.Lent.{lentHints}
-use Rattle.ranking.specs.declared.order.RankedHint.{RankedHint}
-use Rattle.ranking.specs.declared.ranked_hints.RankedHints.{RankedHints}
-use Rattle.hints.specs.Contour.{scaleOf}
-use Rattle.hints.specs.declared.contour.Scale.{Scale}
-use Rattle.hints.specs.declared.contour.Scaling.{Scaling}
-use Rattle.hints.specs.declared.contour.Scaling.the-variants as L
-use Rattle.plans.specs.Action.{actionRows}
-use Rattle.plans.specs.Path.{Sought, Path, Missing, Refused, pathFor}
+use Rattle.arrival_paths.specs.Asked.{isBudget, withNumbers}
 use Rattle.plans.specs.Plan as Q
-
--- ---- Examining more than the agent and the table.
-
--- At most 65,535 pops (RULES 3.10).
-unfoldable pub isBudget : ℕ → Bool
-isBudget budget = leb budget 65535
-
--- A ground for 1: it comes after any for 2, and before 3 (RULES 5.1).
-abbrev pub numbered : Examined → Examined
-numbered X.Fine = X.Refused 1
-numbered (X.Refused n) = cond (eqb n 2) (X.Refused 2) (X.Refused 1)
-
--- What is found where numbers beside those examined must be in the table as well.
-unfoldable pub withNumbers : Bool → Examined → Examined
-withNumbers ok e = cond ok e (numbered e)
-
--- What is found with hints that are refused by this number, 0 for none: 2 for their count, else 1 (RULES 11.9, 11.10).
-unfoldable pub withLent : ℕ → Examined → Examined
-withLent refused e = cond (eqb refused 0) e (cond (eqb refused 2) (X.Refused 2) (numbered e))
-
--- ---- One path alone.
-
--- 4 for the agent's line, then the path.
-unfoldable pub lonePath : CircularProfile → Leg → TimePoint → ℕ → List RankedHint → List Obstacle → Sought
-lonePath p agent arrival budget hints os = by (scaleOf agent)
-  where
-    by : Scaling → Sought
-    by (L.By scale) = pathFor (Q.tripOf p agent scale) os hints budget arrival
-    by (L.Refused n) = Refused n
-
--- The agent, the table, the budget, the arrival time and the lent hints are examined; then 4 for a duration under 10 ns.
-unfoldable pub askedPath : CircularProfile → Leg → TimePoint → ℕ → List ℕ → Lent → Sought
-askedPath p agent arrival budget words lent = by (lentHints (length (lent .starts)) words)
-  where
-    examined : Examined → List RankedHint → Sought
-    examined X.Fine hints = cond (isBrief agent) (Refused 4) (lonePath p agent arrival budget hints (obstaclesOf lent))
-    examined (X.Refused n) hints = Refused n
-
-    by : RankedHints → Sought
-    by list =
-        examined (withLent (list .refused) (withNumbers (isBudget budget && isTime arrival) (agentExamined p agent lent))) (held list)
-
--- Its words, in rows of four: whether there is a path, its pops, its hold and its count of actions; then they.
-unfoldable pub pathOutcome : Sought → Outcome
-pathOutcome (Path actions pops hold) =
-    Gives ((1 ∷ (pops ∷ (wordOf (hold .0) ∷ (length actions ∷ [])))) ++ wordsIn (actionRows actions))
-pathOutcome (Missing pops) = Gives (0 ∷ (pops ∷ (0 ∷ (0 ∷ []))))
-pathOutcome (Refused n) = Refuses n
-
--- ---- A whole plan.
 
 unfoldable pub askedPlan : CircularProfile → Leg → ℕ → Lent → Q.Plan
 askedPlan p agent budget lent = examined (withNumbers (isBudget budget) (agentExamined p agent lent))

@@ -7,40 +7,12 @@ use mathlib.Core.List.{List, _++_}
 use lib.ListN.{length, replicate}
 use Rattle.lists.specs.Outcome.{wiped}
 use Rattle.lists.specs.Rows.{withRows, wordsIn, hasRoom}
-use Rattle.numbers.specs.declared.time.Duration.{Duration}
-use Rattle.plans.specs.Action.{actionRows}
-use Rattle.plans.specs.Path as P
+use Rattle.actions.specs.Action.{actionRows}
 use Rattle.plans.specs.Plan as Q
-use Rattle.plans.specs.declared.action.SafeAction.{SafeAction}
-use Rattle.plans.specs.declared.arrival_path.Found.{Found}
-use Rattle.plans.specs.declared.arrival_path.Found.the-variants as F
-use Rattle.plans.specs.declared.building.Hold.{Hold}
-use Rattle.plans.specs.declared.building.Hold.the-variants as H
 use Rattle.plans.specs.declared.linear_paths.Paths.{Paths}
 use Rattle.plans.specs.declared.linear_paths.Paths.the-variants as R
 
 -- ---- Parts of the work: the rows of an answer, as far as there is room. A refusal's rows are wiped by the call.
-
-unfoldable pub holdOf : P.Built → Hold
-holdOf (P.Of actions hold) = H.Of hold
-holdOf (P.Refused n) = H.Refused n
-
-pub record Put (answer : P.Built) (lent left : List ℕ) (row : ℕ) (r : Hold) : Type 0 where
-  pub hold : r ≡ holdOf answer
-  pub long : length left ≡ length lent
-  pub rows : (actions : List SafeAction) (d : Duration) → answer ≡ P.Of actions d → left ≡ withRows lent row (actionRows actions)
-
-unfoldable pub foundOf : P.Sought → Found
-foundOf (P.Path actions pops hold) = F.Path (length actions) pops hold
-foundOf (P.Missing pops) = F.Missing pops
-foundOf (P.Refused n) = F.Refused n
-
-pub record PutPath (answer : P.Sought) (lent left : List ℕ) (row : ℕ) (r : Found) : Type 0 where
-  pub found : r ≡ foundOf answer
-  pub long : length left ≡ length lent
-  pub rows : (actions : List SafeAction) (pops : ℕ) (d : Duration) → answer ≡ P.Path actions pops d →
-      left ≡ withRows lent row (actionRows actions)
-  pub none : (pops : ℕ) → answer ≡ P.Missing pops → left ≡ lent
 
 -- The paths' rows stand behind the first, which counts.
 unfoldable pub countsOf : Q.Paths → Paths

@@ -24,10 +24,11 @@ use Rattle.hints.specs.declared.contour.Scaling.the-variants as L
 use Rattle.arrivals.specs.Search as A
 use Rattle.search.specs.Watched.{arrivalsAt}
 use Rattle.ways.specs.declared.trip.Trip.{Trip}
-use Rattle.plans.specs.Action.{actionRows}
-use Rattle.plans.specs.Path as P
-use Rattle.plans.specs.declared.action.SafeAction.{SafeAction}
-use Rattle.plans.specs.declared.action.SafeAction.the-variants.{Move}
+use Rattle.actions.specs.Built.{unheld}
+use Rattle.actions.specs.declared.action.SafeAction.{SafeAction}
+use Rattle.actions.specs.declared.action.SafeAction.the-variants.{Move}
+use Rattle.arrival_paths.specs.Path as P
+pub use Rattle.arrival_paths.specs.Asked.{tripOf}
 
 -- A path, the arrival time that it is for, its pops and its hold.
 pub record Path : Type 0 where
@@ -86,9 +87,6 @@ planned hints times sweeps (Refused n) = Refused n
 unfoldable pub instantsOf : List ℤ → List TimePoint
 instantsOf times = map (λ t. record { 0 = t }) times
 
-abbrev pub tripOf : CircularProfile → Leg → Scale → Trip
-tripOf p agent scale = record { profile = p; leg = agent; speed = scale .speed }
-
 -- For the hints and arrival times that there are.
 unfoldable pub pathsPlanned : Trip → List Obstacle → List RankedHint → ℕ → List TimePoint → ℕ → Plan
 pathsPlanned trip os hints budget times sweeps =
@@ -114,7 +112,7 @@ longPlan p agent budget os = scaled (scaleOf agent) (λ scale. hintsPlanned (tri
 unfoldable pub shortPlan : Leg → Plan
 shortPlan agent =
     Planned 0 0 0
-    (record { arrival = agent .end .time; pops = 0; hold = P.unheld; actions = Move (agent .end) ∷ [] } ∷ [])
+    (record { arrival = agent .end .time; pops = 0; hold = unheld; actions = Move (agent .end) ∷ [] } ∷ [])
 
 unfoldable pub planOf : CircularProfile → Leg → ℕ → List Obstacle → Plan
 planOf p agent budget os = cond (isBrief agent) (shortPlan agent) (longPlan p agent budget os)

@@ -1,7 +1,3 @@
-// Paths for arrival times, and the whole plan.
-pub mod action;
-mod arrival_path;
-mod asking;
-mod building;
+// The whole plan.
 pub mod calls;
 mod linear_paths;

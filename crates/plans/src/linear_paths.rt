@@ -1,8 +1,8 @@
 // The whole plan: `compute_safe_linear_paths` of the Rust (docs/RULES.md, 13.1 and 13.4).
-use crate::action;
-use crate::action::SafeAction;
-use crate::arrival_path;
-use crate::arrival_path::Found;
+use actions::action;
+use actions::action::SafeAction;
+use arrival_paths::arrival_path;
+use arrival_paths::arrival_path::Found;
 use hints::path_hints;
 use lists::rows;
 use lists::words;

@@ -5,8 +5,9 @@ use mathlib.Core.Path.{_≡_, sym, _∙_}
 use Rattle.shapes.specs.declared.domain.Examined.the-variants.{Fine}
 use Rattle.obstacles.specs.Lent.{lentOf}
 use Rattle.obstacles.specs.Examined.{agentExamined}
+use Rattle.arrival_paths.specs.Asked.{isBudget, withNumbers}
 use Rattle.plans.specs.Plan.{planOf}
-use Rattle.plans.specs.Asked.{isBudget, withNumbers, askedPlan}
+use Rattle.plans.specs.Asked.{askedPlan}
 use Rattle.plans.proofs.Few.{fine-few}
 use borrow.Author.Needs.{needs}
 use Rattle.plans.proofs.calls.linear_paths.Statement.{statement}

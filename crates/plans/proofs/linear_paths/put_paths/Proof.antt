@@ -12,8 +12,8 @@ use Rattle.numbers.proofs.ReadBack.{read, read-back}
 use Rattle.obstacles.specs.Lent.{lentOf, obstaclesWith}
 use Rattle.obstacles.specs.Boxes.{boxIn}
 use Rattle.ranking.specs.Hints.{held}
-use Rattle.plans.specs.Path.{pathFor}
-use Rattle.plans.specs.Laid.{PutPath}
+use Rattle.arrival_paths.specs.Path.{pathFor}
+use Rattle.arrival_paths.specs.Laid.{PutPath}
 use Rattle.plans.proofs.Keeping.{Kept, kept-start, kept-long, kept-long-actions, kept-end}
 use Rattle.plans.proofs.Keeping.{kept-refused, kept-missing, path-few, kept-path}
 use Rattle.plans.proofs.linear_paths.put_paths.Statement.{statement}
@@ -60,11 +60,7 @@ shared-slice-copy-out-t27 c =
     omega (arith, s .pre)
 
 compute-safe-arrival-path-requires : tie.Need-compute-safe-arrival-path-requires Inv-loop μ-loop
-compute-safe-arrival-path-requires c κs =
-    let l = c .before .before .before in
-    let s = l .before .before .before .before .before .before .before .before in
-    let few = l .loop .inv .few in
-    omega (arith, s .pre)
+compute-safe-arrival-path-requires c κs = search needs
 
 enum-known-path : tie.Need-enum-known-path Inv-loop μ-loop
 enum-known-path c = search needs

@@ -1,0 +1,3 @@
+pub mod Action
+pub mod Built
+pub mod Laid

@@ -1,0 +1,72 @@
+-- One path for one arrival time (RULES 13.5 to 13.26).
+-- Assumes nothing.
+use Prim.Native.Nat.{ℕ}
+use mathlib.Core.Bool.{cond}
+use mathlib.Core.List.{List, [], _∷_}
+use lib.Dec.{eqb}
+use lib.ListN.{length}
+use Rattle.numbers.specs.declared.time.Duration.{Duration}
+use Rattle.numbers.specs.declared.time.TimePoint.{TimePoint}
+use Rattle.obstacles.specs.Obstacle.{Obstacle}
+use Rattle.ranking.specs.declared.order.RankedHint.{RankedHint}
+use Rattle.chains.specs.Handed.{linksIn, firstOf, answered}
+use Rattle.chains.specs.declared.trial.Trial.{Trial}
+use Rattle.chains.specs.declared.trial.Trial.the-variants as T
+use Rattle.chains.specs.declared.tried.Ending.{Ending}
+use Rattle.chains.specs.declared.tried.Ending.the-variants as E
+use Rattle.chains.specs.declared.tried.Tried.{Tried}
+use Rattle.ways.specs.Roots.{goalContour, firstRoot}
+use Rattle.ways.specs.Tests.{straight}
+use Rattle.ways.specs.declared.roots.Contour.{Contour}
+use Rattle.ways.specs.declared.roots.Contour.the-variants as C
+use Rattle.ways.specs.declared.trip.Trip.{Trip}
+use Rattle.paths.specs.Trying.{chainFrom}
+use Rattle.actions.specs.Built as B
+use Rattle.actions.specs.Built.{Built, built, hintsAt, unheld}
+use Rattle.actions.specs.declared.action.SafeAction.{SafeAction}
+use Rattle.actions.specs.declared.action.SafeAction.the-variants.{Move}
+
+-- A path with its pops and its hold, none with the pops, or a refusal.
+pub data Sought : Type 0 where
+  Path : List SafeAction → ℕ → Duration → Sought
+  Missing : ℕ → Sought
+  Refused : ℕ → Sought
+
+abbrev pub withPops : ℕ → Built → Sought
+withPops pops (B.Of actions hold) = Path actions pops hold
+withPops pops (B.Refused n) = Refused n
+
+-- The path along a chain (RULES 13.23).
+unfoldable pub alongHints : Trip → List RankedHint → List ℕ → ℕ → Sought
+alongHints trip hints links pops = withPops pops (built trip (trip .leg .start) unheld (hintsAt hints links))
+
+-- What a search comes to (RULES 13.17, 13.21, 13.23).
+unfoldable pub taken : Trip → List RankedHint → Tried → Sought
+taken trip hints t = by (t .ending)
+  where
+    by : Ending → Sought
+    by E.Found = alongHints trip hints (linksIn (t .chain)) (t .pops)
+    by E.Blocked = Missing (t .pops)
+    by E.Unreached = Missing (t .pops)
+    by (E.Refused n) = Refused n
+
+abbrev pub contoured : Contour → (Duration → Sought) → Sought
+contoured (C.Of d) go = go d
+contoured (C.Refused n) go = Refused n
+
+-- By way of hints, where there are any (RULES 13.7 to 13.9).
+unfoldable pub byHints : Trip → List Obstacle → List RankedHint → ℕ → TimePoint → Sought
+byHints trip os hints budget arrival =
+    cond (eqb (length hints) 0)
+    (Missing 0)
+    (contoured (goalContour trip arrival) (λ goal.
+    taken trip hints (answered (chainFrom trip os hints budget (firstOf (firstRoot goal hints))))))
+
+-- One Move to the asked waypoint where the direct path is safe, else by way of hints (RULES 13.5 to 13.7).
+unfoldable pub pathFor : Trip → List Obstacle → List RankedHint → ℕ → TimePoint → Sought
+pathFor trip os hints budget arrival = by (straight trip os arrival) (λ _. byHints trip os hints budget arrival)
+  where
+    by : Trial → (Unit {0} → Sought) → Sought
+    by T.Passed go = Path (Move (trip .leg .end) ∷ []) 0 unheld
+    by T.Failed go = go tt
+    by (T.Refused n) go = Refused n

@@ -1,0 +1,157 @@
+// One path for one arrival time: `compute_safe_arrival_path` of the Rust (docs/RULES.md, 13.5 to 13.26).
+use actions::action;
+use actions::action::SafeAction;
+use actions::building;
+use actions::building::Hold;
+use chains::trial::Trial;
+use chains::tried::Chain;
+use chains::tried::Ending;
+use chains::tried::Tried;
+use lists::words;
+use numbers::time::Duration;
+use numbers::time::TimePoint;
+use paths::trying;
+use ranking::ranked_hints::RankedHints;
+use ways::roots;
+use ways::roots::Contour;
+use ways::tests;
+use ways::trip::Trip;
+ghost use Rattle.obstacles.specs.Lent.{lentOf, obstaclesWith};
+ghost use Rattle.obstacles.specs.Boxes.{boxIn};
+ghost use Rattle.ranking.specs.Hints.{held};
+ghost use Rattle.chains.specs.Handed.{linksIn};
+ghost use Rattle.arrival_paths.specs.Path.{Refused, alongHints, taken, byHints, pathFor};
+ghost use Rattle.arrival_paths.specs.Laid.{PutPath};
+
+// How many actions a path has, with its pops and its hold; no path, with the pops; or a refusal and its number.
+pub enum Found {
+    Path(usize, u64, Duration),
+    Missing(u64),
+    Refused(u64),
+}
+
+// A refusal's number alone: no word of the room is kept.
+fn refuse(out: &mut [u64], number: u64) -> Found
+    ensures { λ r. ⌜ PutPath (Refused number) (now (out .entry)) (now (out .exit)) 0 r ⌝ }
+{
+    words::wipe_from(out, 0);
+    Found::Refused(number)
+}
+
+// The path along a chain.
+fn along(
+    trip: Trip,
+    hints: RankedHints,
+    chain: Chain,
+    pops: u64,
+    out: &mut [u64],
+    row: usize,
+) -> Found
+    ensures { λ r. ⌜ PutPath (alongHints trip (held hints) (linksIn chain) pops) (now (out .entry)) (now (out .exit)) row r ⌝ }
+{
+    let n = chain.len();
+    let hold = building::build(trip, hints, chain, out, row);
+    match hold {
+        Hold::Refused(number) => Found::Refused(number),
+        Hold::Of(d) => Found::Path(2 * n + 1, pops, d),
+    }
+}
+
+// The path that a search came to.
+fn take(trip: Trip, hints: RankedHints, tried: Tried, out: &mut [u64], row: usize) -> Found
+    ensures { λ r. ⌜ PutPath (taken trip (held hints) tried) (now (out .entry)) (now (out .exit)) row r ⌝ }
+{
+    let ending = tried.ending;
+    let chain = tried.chain;
+    match ending {
+        Ending::Found => along(trip, hints, chain, tried.pops, out, row),
+        Ending::Blocked => Found::Missing(tried.pops),
+        Ending::Unreached => Found::Missing(tried.pops),
+        Ending::Refused(n) => refuse(out, n),
+    }
+}
+
+// The path by way of hints.
+fn by_hints(
+    trip: Trip,
+    arrival: TimePoint,
+    hints: RankedHints,
+    budget: u64,
+    starts: &[usize],
+    numbers: &[f64],
+    times: &[i64],
+    xs: &[f64],
+    ys: &[f64],
+    boxes: &[f64],
+    out: &mut [u64],
+    row: usize,
+) -> Found
+    ensures { λ r. ⌜ PutPath (byHints trip (obstaclesWith (lentOf (now (starts .entry)) (now (numbers .entry)) (now (times .entry)) (now (xs .entry)) (now (ys .entry))) (boxIn (now (boxes .entry)))) (held hints) budget arrival) (now (out .entry)) (now (out .exit)) row r ⌝ }
+{
+    if hints.len() == 0 {
+        return Found::Missing(0);
+    }
+    let contour = roots::goal_contour(trip, arrival);
+    match contour {
+        Contour::Refused(n) => refuse(out, n),
+        Contour::Of(goal) => {
+            let first = roots::first_root(hints, goal);
+            let tried = trying::find_chain(
+                trip,
+                hints,
+                budget,
+                first,
+                starts,
+                numbers,
+                times,
+                xs,
+                ys,
+                boxes,
+            );
+            take(trip, hints, tried, out, row)
+        }
+    }
+}
+
+// The actions of the path stand from `row` on, as far as there is room. A refusal keeps no word.
+pub fn compute_safe_arrival_path(
+    trip: Trip,
+    arrival: TimePoint,
+    hints: RankedHints,
+    budget: u64,
+    starts: &[usize],
+    numbers: &[f64],
+    times: &[i64],
+    xs: &[f64],
+    ys: &[f64],
+    boxes: &[f64],
+    out: &mut [u64],
+    row: usize,
+) -> Found
+    ensures { λ r. ⌜ PutPath (pathFor trip (obstaclesWith (lentOf (now (starts .entry)) (now (numbers .entry)) (now (times .entry)) (now (xs .entry)) (now (ys .entry))) (boxIn (now (boxes .entry)))) (held hints) budget arrival) (now (out .entry)) (now (out .exit)) row r ⌝ }
+{
+    let direct = tests::can_arrive_safely(trip, arrival, starts, numbers, times, xs, ys, boxes);
+    match direct {
+        Trial::Refused(n) => refuse(out, n),
+        Trial::Passed => {
+            let leg = trip.leg;
+            let goal = leg.end;
+            action::put_action(out, row, SafeAction::Move(goal));
+            Found::Path(1, 0, Duration(0))
+        }
+        Trial::Failed => by_hints(
+            trip,
+            arrival,
+            hints,
+            budget,
+            starts,
+            numbers,
+            times,
+            xs,
+            ys,
+            boxes,
+            out,
+            row,
+        ),
+    }
+}

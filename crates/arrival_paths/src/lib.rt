@@ -1,0 +1,4 @@
+// One path for one arrival time, and the call for it.
+pub mod arrival_path;
+pub mod asking;
+pub mod calls;
