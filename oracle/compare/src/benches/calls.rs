@@ -109,7 +109,7 @@ fn legs(request: &Request) -> Vec<Met> {
         for pair in o.waypoints.windows(2) {
             let (b, limit) = ((o.profile, (pair[0], pair[1])), o.conflict_squared);
             let during = pair[1].time >= request.from.time && pair[0].time <= request.to.time;
-            if during && ask::detect_proximity(limit, agent.1, b.1).is_ok() {
+            if during && both_answer(limit, agent.1, b.1) {
                 let meeting = Meeting::new(agent, b, limit);
                 all.push(Met {
                     a: agent,
@@ -121,4 +121,9 @@ fn legs(request: &Request) -> Vec<Met> {
         }
     }
     all
+}
+
+fn both_answer(limit: f64, a: Leg, b: Leg) -> bool {
+    let rust = ask::detect_proximity(limit, a, b).is_ok();
+    rust && proved::detect_proximity(limit, a, b, &mut [0; 3]) == 0
 }

@@ -10,8 +10,9 @@ const USAGE: &str = "bench [--rounds N] [--machine TEXT] [PART ...]";
 /// What is inside the figures and what is not.
 const INSIDE: &str = "\
 a call of the proved side examines its input, works, and clears the room behind its answer
-a call of the Rust runs on its own types, made before with the obstacles' boxes; what it hands back is dropped
-the median of the rounds, each 20 ms of processor time or more on each side; the ratio of the medians, and its spread over the rounds";
+a call of the Rust runs on its own types, made before with the obstacles' boxes; its answer is dropped
+the median of the rounds, each 20 ms of processor time or more on each side
+the ratio of the medians, and its spread over the rounds";
 
 struct Asked {
     rounds: usize,
