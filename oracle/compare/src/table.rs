@@ -28,6 +28,12 @@ impl Table {
         table
     }
 
+    /// The bytes of its lists.
+    pub fn bytes(&self) -> usize {
+        let words = [self.starts.len(), self.numbers.len(), 3 * self.times.len()];
+        8 * words.iter().sum::<usize>()
+    }
+
     /// Makes lists that do not fit one another; false where this table cannot be spoilt so.
     pub fn spoil(&mut self, d: &mut Dice) -> bool {
         let some = !self.starts.is_empty();

@@ -33,7 +33,7 @@ fn plain(w: WaypointR2) -> Waypoint {
     Waypoint::new(w.time.nanos_since_zero, w.position.x, w.position.y)
 }
 
-fn profile(p: Profile, conflict_squared: f64) -> CircularProfile {
+pub(crate) fn profile(p: Profile, conflict_squared: f64) -> CircularProfile {
     // the Rust's own constructor, so its refusals are its own
     let made = environment::CircularProfile::new(p.footprint, 0.0, p.follow);
     CircularProfile::new(made.expect("no radius below zero"), conflict_squared)
@@ -43,7 +43,7 @@ fn trajectory(waypoints: &[Waypoint]) -> Option<Trajectory<WaypointR2>> {
     Trajectory::from_iter(waypoints.iter().copied().map(waypoint)).ok()
 }
 
-fn floor(scene: &Scene) -> Floor {
+pub(crate) fn floor(scene: &Scene) -> Floor {
     let obstacles = scene.obstacles.iter().map(|o| {
         DynamicCircularObstacle::new(
             profile(o.profile, o.conflict_squared),
@@ -272,7 +272,7 @@ pub fn compute_safe_linear_paths(
     found
 }
 
-fn line(leg: Leg) -> (WaypointR2, WaypointR2) {
+pub(crate) fn line(leg: Leg) -> (WaypointR2, WaypointR2) {
     (waypoint(leg.0), waypoint(leg.1))
 }
 

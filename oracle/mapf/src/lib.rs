@@ -6,3 +6,4 @@ pub mod domain;
 pub mod error;
 pub mod fault;
 pub mod motion;
+pub mod ready;

@@ -1,56 +1,58 @@
-//! Times the proved calls against the Rust's, both sides in one process and on the same inputs, in
-//! rounds that take turns.
+//! Times the proved calls against the Rust's, both sides in one process, both optimised and on the
+//! same inputs, in rounds that take turns.
 
-use compare::layers::roots;
-use compare::proved;
-use std::hint::black_box;
-use std::time::Instant;
+use compare::{benches, machine};
+use pico_args::Arguments;
+use std::process::ExitCode;
 
-const ROUNDS: usize = 21;
-const INPUTS: u64 = 200_000;
+const USAGE: &str = "bench [--rounds N] [--machine TEXT] [PART ...]";
 
-/// The nanoseconds for each input, one round after the other.
-struct Times(Vec<f64>);
+/// What is inside the figures and what is not.
+const INSIDE: &str = "\
+a call of the proved side examines its input, works, and clears the room behind its answer
+a call of the Rust runs on its own types, made before with the obstacles' boxes; its answer is dropped
+the median of the rounds, each 20 ms of processor time or more on each side
+the ratio of the medians, and its spread over the rounds";
 
-impl Times {
-    fn median(&self) -> f64 {
-        let mut sorted = self.0.clone();
-        sorted.sort_by(f64::total_cmp);
-        sorted[sorted.len() / 2]
-    }
-
-    fn told(&self) -> String {
-        let least = self.0.iter().copied().fold(f64::INFINITY, f64::min);
-        let most = self.0.iter().copied().fold(0.0, f64::max);
-        format!("median {:.1} ns ({least:.1} to {most:.1})", self.median())
-    }
+struct Asked {
+    rounds: usize,
+    machine: Option<String>,
+    parts: Vec<String>,
 }
 
-fn timed(inputs: &[f64], call: impl Fn(f64) -> u64) -> f64 {
-    let began = Instant::now();
-    let sum = inputs
-        .iter()
-        .fold(0u64, |sum, &x| sum.wrapping_add(call(black_box(x))));
-    black_box(sum);
-    began.elapsed().as_nanos() as f64 / inputs.len() as f64
+fn main() -> ExitCode {
+    let asked = match read(Arguments::from_env()) {
+        Ok(asked) => asked,
+        Err(why) => {
+            let names: Vec<&str> = benches::ALL.iter().map(|part| part.name).collect();
+            eprintln!("bench: {why}\n{USAGE}\nparts: {}", names.join(" "));
+            return ExitCode::FAILURE;
+        }
+    };
+    println!("machine: {}\n{INSIDE}", machine::told(asked.machine));
+    for part in benches::ALL {
+        if asked.parts.is_empty() || asked.parts.iter().any(|name| name == part.name) {
+            print!("{}", (part.time)(asked.rounds));
+        }
+    }
+    ExitCode::SUCCESS
 }
 
-fn main() {
-    // numbers above zero alone: what the planner takes roots of
-    let all = (0..).map(|n| roots::number(1, n).1);
-    let positive = all.filter(|x| x.is_finite() && *x > 0.0);
-    let inputs: Vec<f64> = positive.take(INPUTS as usize).collect();
-    let (mut ours, mut theirs) = (Times(Vec::new()), Times(Vec::new()));
-    for _ in 0..ROUNDS {
-        ours.0.push(timed(&inputs, |x| {
-            let mut room = [0];
-            proved::square_root(x, &mut room) + room[0]
-        }));
-        theirs.0.push(timed(&inputs, |x| x.sqrt().to_bits()));
+fn read(mut args: Arguments) -> Result<Asked, String> {
+    let said = |e: pico_args::Error| e.to_string();
+    let rounds: Option<usize> = args.opt_value_from_str("--rounds").map_err(said)?;
+    let rounds = rounds.unwrap_or(21);
+    let machine = args.opt_value_from_str("--machine").map_err(said)?;
+    let words = args.finish().into_iter();
+    let parts: Vec<String> = words.map(|w| w.to_string_lossy().into_owned()).collect();
+    let known = |name: &String| benches::ALL.iter().any(|part| part.name == name);
+    match parts.iter().find(|name| !known(name)) {
+        Some(name) => Err(format!("`{name}` is no part")),
+        None if rounds == 0 => Err(String::from("at least one round")),
+        None => Ok(Asked {
+            rounds,
+            machine,
+            parts,
+        }),
     }
-    let ratio = ours.median() / theirs.median();
-    println!("{ROUNDS} rounds of {INPUTS} roots of numbers above zero, the room of one word cleared before each");
-    println!("proved:   {}", ours.told());
-    println!("platform: {}", theirs.told());
-    println!("ratio of the medians: {ratio:.1}");
 }
