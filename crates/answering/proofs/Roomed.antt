@@ -11,7 +11,7 @@ use lib.Dec.{leb, eqb}
 use lib.ListN.{length, take, drop, replicate, length-map}
 use lib.Seq.{take-at}
 use Rattle.lists.specs.Rows.{wordsIn, hasRoom}
-use Rattle.plans.specs.Action.{actionRows}
+use Rattle.actions.specs.Action.{actionRows}
 use Rattle.plans.specs.Laid.{fits, filled, planNumber, planRoom, actionRoomOf}
 use Rattle.plans.specs.Plan.{Path, Plan, Planned, Refused, pathRows, headRows, allActions}
 use Rattle.texts.specs.Lines.{okLine, refusedLine}

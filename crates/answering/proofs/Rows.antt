@@ -12,10 +12,10 @@ use Rattle.lists.specs.Listed.{listed}
 use Rattle.lists.specs.Rows.{wordsIn}
 use Rattle.lists.proofs.Listed.{listed-same}
 use Rattle.numbers.specs.Word.{wordOf}
-use Rattle.plans.specs.Action.{actionWords, actionRows}
+use Rattle.actions.specs.Action.{actionWords, actionRows}
 use Rattle.plans.specs.Plan.{Path, pathWords, pathRows, allActions}
-use Rattle.plans.specs.declared.action.SafeAction.{SafeAction}
-use Rattle.plans.specs.declared.action.SafeAction.the-variants.{Move, Wait}
+use Rattle.actions.specs.declared.action.SafeAction.{SafeAction}
+use Rattle.actions.specs.declared.action.SafeAction.the-variants.{Move, Wait}
 use Rattle.texts.specs.Lines.{pathLine}
 use Rattle.texts.specs.Answer.{Row, rowAt, rowsOf, actionLine, actionLines, pathLines}
 use Rattle.answering.specs.Text.{actionText, actionsText, pathText, pathsText}

@@ -8,8 +8,8 @@ use lib.Ieee.{binary64, toBits}
 use lib.ListN.{length}
 use Rattle.numbers.specs.Word.{wordOf}
 use Rattle.plans.specs.Plan.{Path, Plan, Planned, Refused, allActions}
-use Rattle.plans.specs.declared.action.SafeAction.{SafeAction}
-use Rattle.plans.specs.declared.action.SafeAction.the-variants.{Move, Wait}
+use Rattle.actions.specs.declared.action.SafeAction.{SafeAction}
+use Rattle.actions.specs.declared.action.SafeAction.the-variants.{Move, Wait}
 use Rattle.requests.specs.Asked.{streamPlan}
 use Rattle.texts.specs.declared.room.Told.{Told}
 use Rattle.texts.specs.declared.room.Told.the-variants as T

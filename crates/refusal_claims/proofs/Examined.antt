@@ -11,7 +11,7 @@ use Rattle.shapes.specs.declared.profile.CircularProfile.{CircularProfile}
 use Rattle.shapes.specs.declared.waypoint.Leg.{Leg}
 use Rattle.obstacles.specs.Examined.{isShaped, areAllowed, agentExamined}
 use Rattle.obstacles.specs.Lent.{Lent}
-use Rattle.plans.specs.Asked.{numbered, withNumbers, withLent}
+use Rattle.arrival_paths.specs.Asked.{numbered, withNumbers, withLent}
 
 -- An examination whose refusals are such numbers.
 abbrev pub Finds : (ℕ → Type 0) → Examined → Type 0

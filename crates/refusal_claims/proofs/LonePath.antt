@@ -24,10 +24,10 @@ use Rattle.hints.specs.Contour.{scaleOf}
 use Rattle.hints.specs.declared.contour.Scaling.{Scaling}
 use Rattle.hints.specs.declared.contour.Scaling.the-variants as L
 use Rattle.hints.proofs.Reaches.{Scaled, scale-given}
-use Rattle.plans.specs.Path.{Refused}
-use Rattle.plans.specs.Asked.{isBudget, withNumbers, withLent, lonePath, askedPath}
+use Rattle.arrival_paths.specs.Path.{Refused}
+use Rattle.arrival_paths.specs.Asked.{isBudget, withNumbers, withLent, lonePath, askedPath}
 use Rattle.plans.specs.Plan.{tripOf}
-use Rattle.plans.proofs.Fine.{numbers-fine, lent-fine}
+use Rattle.arrival_paths.proofs.Fine.{numbers-fine, lent-fine}
 use Rattle.refusal_claims.specs.Numbers.{PathRefusal, Number, Shape, Backward, NoLine}
 use Rattle.refusal_claims.proofs.Examined.{Finds, agent-finds, numbers-find, lent-finds}
 use Rattle.refusal_claims.proofs.Path.{Seeks, seeks}

@@ -30,10 +30,10 @@ use Rattle.ways.specs.declared.travel.Reached.{Reached}
 use Rattle.ways.specs.declared.travel.Reached.the-variants as W
 use Rattle.ways.specs.declared.trip.Trip.{Trip}
 use Rattle.paths.specs.Trying.{stopIn, toParent, startsAt, reaches, chainFrom}
-use Rattle.plans.specs.Path.{Built, Of, reaching, spanning, holdAfter, stopped, ended, before, andOn, built, hintsAt}
-use Rattle.plans.specs.Path.{Sought, Path, Missing, Refused, unheld, withPops, alongHints, taken, contoured, byHints, pathFor}
-use Rattle.plans.specs.declared.action.SafeAction.{SafeAction}
-use Rattle.plans.specs.declared.action.SafeAction.the-variants.{Move, Wait}
+use Rattle.actions.specs.Built.{Built, Of, reaching, spanning, holdAfter, stopped, ended, before, andOn, built, hintsAt, unheld}
+use Rattle.arrival_paths.specs.Path.{Sought, Path, Missing, Refused, withPops, alongHints, taken, contoured, byHints, pathFor}
+use Rattle.actions.specs.declared.action.SafeAction.{SafeAction}
+use Rattle.actions.specs.declared.action.SafeAction.the-variants.{Move, Wait}
 use Rattle.refusal_claims.specs.Numbers.{PathRefusal, Strayed, Spent}
 use Rattle.refusal_claims.proofs.Chain.{Searches, searches}
 use Rattle.refusal_claims.proofs.Ways.{Reaches, travels, Contours, contours, Tried, end-tried, goal-tried, start-tried}

@@ -33,13 +33,13 @@ use Rattle.search.specs.Watched.{arrivalsAt}
 use Rattle.search_claims.specs.DemandThree.{Refusal, by-numbers, by-shape, by-creep, by-stuck}
 use Rattle.search_claims.proofs.DemandThree.{demand-three}
 use Rattle.ways.specs.declared.trip.Trip.{Trip}
-use Rattle.plans.specs.Path as P
-use Rattle.plans.specs.Path.{pathFor}
-use Rattle.plans.specs.Asked.{isBudget, withNumbers}
+use Rattle.arrival_paths.specs.Path as P
+use Rattle.arrival_paths.specs.Path.{pathFor}
+use Rattle.arrival_paths.specs.Asked.{isBudget, withNumbers}
 use Rattle.plans.specs.Asked.{askedPlan}
 use Rattle.plans.specs.Plan.{Path, Paths, Of, first, sought, pathsFor, Plan, Planned, Refused, scaled, timed, planned, tripOf}
 use Rattle.plans.specs.Plan.{pathsPlanned, timesPlanned, hintsPlanned, longPlan, shortPlan, planOf}
-use Rattle.plans.proofs.Fine.{numbers-fine}
+use Rattle.arrival_paths.proofs.Fine.{numbers-fine}
 use Rattle.path_claims.proofs.Calls.{hints-alone, arrivals-alone}
 use Rattle.refusal_claims.specs.Numbers.{HintsRefusal, PathRefusal, PlanRefusal}
 use Rattle.refusal_claims.specs.Numbers.{Number, Shape, Backward, NoLine, Creep, Apart, Strayed, Stuck, Full, Spent}

@@ -24,8 +24,8 @@ use Rattle.obstacles.specs.Lent.{Lent}
 use Rattle.obstacles.specs.declared.calls.Hull.the-variants as H
 use Rattle.segments.specs.Asked.{askedSegment}
 use Rattle.hints.specs.Asked.{askedHints}
-use Rattle.plans.specs.Path as S
-use Rattle.plans.specs.Asked.{askedPath}
+use Rattle.arrival_paths.specs.Path as S
+use Rattle.arrival_paths.specs.Asked.{askedPath}
 use Rattle.plans.specs.Asked.{askedPlan}
 use Rattle.plans.specs.Laid.{fits, planNumber}
 use Rattle.plans.specs.Plan.{Path, Plan, Planned, Refused, allActions}

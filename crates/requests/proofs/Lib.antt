@@ -1,3 +1,8 @@
+pub mod Digits
+pub mod Counts
+pub mod Extents
+pub mod Placed
+pub mod Planned
 pub mod Numbers
 pub mod Packing
 pub mod Sizes

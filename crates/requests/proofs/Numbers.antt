@@ -91,13 +91,7 @@ read-of-bits f at n v h there = by n v there ∙ mod-eq-of-lt h
         sum ∙ ap (λ k. w % 2 ^ k) (add-one m)
 
 module _ (f : ℕ → ℕ) (small : (i : ℕ) → f i < 2) where
-  -- A number of n bits is below 2 ^ n,
-  pub value-bound : (at n : ℕ) → valueOf f at n < 2 ^ n
-  unfolding valueOf
-  value-bound at zero = omega arith
-  value-bound at (suc n) = omega (arith, value-bound at n, small (at + n))
-
-  -- and its bits are those that it was read from.
+  -- The bits of a number are those that it was read from.
   pub bits-of-read : (at n : ℕ) → Stands f at (bitsOf n (valueOf f at n))
   unfolding valueOf
   bits-of-read at zero = λ j h. absurd (omega (arith, length-bits 0 0))

@@ -15,6 +15,7 @@ use Rattle.lists.proofs.Listed.{length-listed}
 use Rattle.numbers.proofs.Reach.{both}
 use Rattle.requests.specs.Bits.{bitAt, numberAt}
 use Rattle.requests.specs.Written.{bitsOf, bitsFor, numberIn, packed}
+use Rattle.requests.proofs.Digits.{bit-lt}
 use Rattle.requests.proofs.Numbers.{
   valueOf,
   Stands,
@@ -25,7 +26,6 @@ use Rattle.requests.proofs.Numbers.{
   bit-of,
   read-of-bits,
   bits-of-read,
-  value-bound,
   zeros-read,
   zero-bits,
 }
@@ -50,16 +50,9 @@ unfolding numberIn valueOf
 number-in bits at zero = refl
 number-in bits at (suc n) = ap (λ v. 2 * v + getD bits (at + n) 0) (number-in bits at n)
 
-bit-small : (s : List ℕ) (i : ℕ) → bitAt s i < 2
-unfolding bitAt
-bit-small s i = omega arith
-
--- So a field of n bits is below 2 ^ n, and its bits are those of the stream.
-pub number-bound : (s : List ℕ) (at n : ℕ) → numberAt s at n < 2 ^ n
-number-bound s at n = rw (number-at s at n) (value-bound (bitAt s) (bit-small s) at n)
-
+-- The bits of a number that was read are those of the stream.
 pub number-bits : (s : List ℕ) (at n : ℕ) → Stands (bitAt s) at (bitsOf n (numberAt s at n))
-number-bits s at n = rw (number-at s at n) (bits-of-read (bitAt s) (bit-small s) at n)
+number-bits s at n = rw (number-at s at n) (bits-of-read (bitAt s) (bit-lt s) at n)
 
 -- Where the bits of a number stand, it is read.
 pub number-read : (s : List ℕ) (at n v : ℕ) → v < 2 ^ n → Stands (bitAt s) at (bitsOf n v) → numberAt s at n ≡ v

@@ -37,7 +37,9 @@ use Rattle.requests.specs.Written.{
   requestFits,
 }
 use Rattle.requests.proofs.Numbers.{Stands, joined}
-use Rattle.requests.proofs.Packing.{areBytes, number-bound, number-bits, field-there, bytes-packed}
+use Rattle.requests.proofs.Digits.{number-lt}
+use Rattle.requests.proofs.Counts.{length-points, length-obstacles}
+use Rattle.requests.proofs.Packing.{areBytes, number-bits, field-there, bytes-packed}
 use Rattle.requests.proofs.Sizes.{length-point, length-obstacle, length-request}
 
 -- ---- Waypoints: the bits of what is read stand where it was read, and it fits.
@@ -55,15 +57,10 @@ module _ (s : List ℕ) where
   unfolding pointAt pointFits
   point-fits at =
       rw (
-        lt-ltb _ _ (number-bound s at 50),
-        lt-ltb _ _ (number-bound s (at + 50) 64),
-        lt-ltb _ _ (number-bound s (at + 114) 64),
+        lt-ltb _ _ (number-lt s at 50),
+        lt-ltb _ _ (number-lt s (at + 50) 64),
+        lt-ltb _ _ (number-lt s (at + 114) 64),
       )
-
-  length-points-at : (at n : ℕ) → length (pointsAt s at n) ≡ n
-  unfolding pointsAt
-  length-points-at at zero = refl
-  length-points-at at (suc n) = ap suc (length-points-at (at + 178) n)
 
   points-there : (at n : ℕ) → Stands (bitAt s) at (bitsFor pointBits (pointsAt s at n))
   unfolding pointsAt bitsFor
@@ -89,7 +86,7 @@ module _ (s : List ℕ) where
       let counts = bitsOf 9 n ++ points in
       let limits = bitsOf 64 (numberAt s (at + 128) 64) ++ counts in
       let follows = bitsOf 64 (numberAt s (at + 64) 64) ++ limits in
-      rw (length-points-at (at + 201) n)
+      rw (length-points s (at + 201) n)
       (field-there s at (at + 64) 64 follows refl
       (field-there s (at + 64) (at + 128) 64 limits (omega arith)
       (field-there s (at + 128) (at + 192) 64 counts (omega arith)
@@ -97,25 +94,20 @@ module _ (s : List ℕ) where
 
   points-counted : (at : ℕ) → length (obstacleAt s at .points) ≡ numberAt s (at + 192) 9
   unfolding obstacleAt
-  points-counted at = length-points-at (at + 201) (numberAt s (at + 192) 9)
+  points-counted at = length-points s (at + 201) (numberAt s (at + 192) 9)
 
   obstacle-fits : (at : ℕ) → obstacleFits (obstacleAt s at) ≡ true
   unfolding obstacleAt obstacleFits
   obstacle-fits at =
       let n : ℕ = numberAt s (at + 192) 9 in
       rw (
-        length-points-at (at + 201) n,
-        lt-ltb _ _ (number-bound s at 64),
-        lt-ltb _ _ (number-bound s (at + 64) 64),
-        lt-ltb _ _ (number-bound s (at + 128) 64),
-        lt-ltb _ _ (number-bound s (at + 192) 9),
+        length-points s (at + 201) n,
+        lt-ltb _ _ (number-lt s at 64),
+        lt-ltb _ _ (number-lt s (at + 64) 64),
+        lt-ltb _ _ (number-lt s (at + 128) 64),
+        lt-ltb _ _ (number-lt s (at + 192) 9),
         points-fit (at + 201) n,
       )
-
-  length-obstacles-at : (at n : ℕ) → length (obstaclesAt s at n) ≡ n
-  unfolding obstaclesAt
-  length-obstacles-at at zero = refl
-  length-obstacles-at at (suc n) = ap suc (length-obstacles-at (at + obstacleBits (numberAt s (at + 192) 9)) n)
 
   obstacles-there : (at n : ℕ) → Stands (bitAt s) at (bitsFor obstacleFields (obstaclesAt s at n))
   unfolding obstaclesAt bitsFor
@@ -156,19 +148,19 @@ module _ (s : List ℕ) where
       let at-footprint = field-there s 26 90 64 follows refl at-follow in
       let at-budget = field-there s 10 26 16 footprints refl at-footprint in
       let at-count = field-there s 4 10 6 budgets refl at-budget in
-      rw (length-obstacles-at 510 n) (rw edition at (field-there s 0 4 4 counts refl at-count))
+      rw (length-obstacles s 510 n) (rw edition at (field-there s 0 4 4 counts refl at-count))
 
   request-fits : requestFits (requestAt s) ≡ true
   unfolding requestAt requestFits
   request-fits =
       rw (
-        length-obstacles-at 510 (numberAt s 4 6),
-        lt-ltb _ _ (number-bound s 10 16),
-        lt-ltb _ _ (number-bound s 26 64),
-        lt-ltb _ _ (number-bound s 90 64),
+        length-obstacles s 510 (numberAt s 4 6),
+        lt-ltb _ _ (number-lt s 10 16),
+        lt-ltb _ _ (number-lt s 26 64),
+        lt-ltb _ _ (number-lt s 90 64),
         point-fits 154,
         point-fits 332,
-        lt-ltb _ _ (number-bound s 4 6),
+        lt-ltb _ _ (number-lt s 4 6),
         obstacles-fit 510 (numberAt s 4 6),
       )
 

@@ -3,16 +3,18 @@
 -- Assumes nothing.
 use Prim.Native.Nat.{ℕ, suc, _+_, _≤_, _<_}
 use mathlib.Core.Path.{_≡_, refl, sym, ap, _∙_}
+use mathlib.Core.Bool.{Bool, true, false, cond}
 use mathlib.Core.List.{List, [], _∷_, _++_}
 use borrow.Author.Tests.{lt-ltb, le-ltb}
 use native.Mathlib.Numerals.{add-one}
 use native.Mathlib.Omega.{arith}
+use lib.Dec.{ltb}
 use lib.ListN.{length, set, drop}
 use lib.Seq.{sets, sets-eq}
-use Rattle.lists.specs.Outcome.{wiped}
+use Rattle.lists.specs.Outcome.{Gives, Handed, numberOf, wiped}
 use Rattle.lists.proofs.Answer.{room-fits, room-short}
 use Rattle.lists.proofs.Filling.{wiped-after}
-use Rattle.texts.specs.Room.{written, Put, Tells, Settled, toldOf}
+use Rattle.texts.specs.Room.{written, Put, Tells, Settled, toldOf, toldNumber}
 use Rattle.texts.specs.declared.room.Told.{Told}
 use Rattle.texts.specs.declared.room.Told.the-variants.{Text, Refused}
 use Rattle.texts.proofs.Putting.{either, reached-fits, reached-short, put-kept}
@@ -60,3 +62,18 @@ telling {text} {lent} {put} {left} {end} {r} p s = either (length text) (length 
           told = rw (put-kept p, ends, beyond) at (s .told) ∙ sym (told-short text (length lent) h);
           room = rw (put-kept p, ends, beyond) at (s .room) ∙ sym (room-short text (length lent) h);
         }
+
+-- ---- The same by number.
+
+told-number : (text : List ℕ) (room : ℕ) → toldNumber (toldOf text room) ≡ numberOf (Gives text) room
+unfolding toldNumber toldOf numberOf
+told-number text room = by (ltb room (length text))
+  where
+    by : (b : Bool) → toldNumber (cond b (Refused 12) (Text (length text))) ≡ cond b 12 0
+    by true = refl
+    by false = refl
+
+-- A text that is told is handed over with its number.
+pub tells-handed : {text lent left : List ℕ} {r : Told} → Tells text lent left r → Handed (Gives text) lent left (toldNumber r)
+tells-handed {text} {lent} t =
+    record { number = ap toldNumber (t .told) ∙ told-number text (length lent); room = t .room }

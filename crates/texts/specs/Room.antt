@@ -28,6 +28,11 @@ pub record Put (text lent : List ℕ) (at : ℕ) (left : List ℕ) (r : ℕ) : T
 unfoldable pub toldOf : List ℕ → ℕ → Told
 toldOf text room = cond (ltb room (length text)) (Refused 12) (Text (length text))
 
+-- The number that is handed back for it: 0 for a text (RULES 4.12).
+unfoldable pub toldNumber : Told → ℕ
+toldNumber (Text n) = 0
+toldNumber (Refused n) = n
+
 -- The promise of a whole text: `lent` is the room as it came, `left` as it is left. Behind the text the room is zero, and where
 -- the text has no room, throughout (RULES 4.14, 4.15).
 pub record Tells (text lent left : List ℕ) (r : Told) : Type 0 where
