@@ -1,11 +1,13 @@
 -- `requests::bits::bit_at` meets its contract: a shift to the right divides by a power of 2.
 -- Assumes nothing.
 use mathlib.Core.Path.{refl, sym}
-use Prim.Native.Nat.{_-_, _/_, _%_, _^_}
+use Prim.Native.Nat.{ℕ, _/_, _<_}
 use native.Mathlib.Nat.{div-le-self}
 use native.Mathlib.Omega.{arith}
 use borrow.Author.Needs.{needs}
 use lib.ListN.{getD}
+use mir.Syntax.{w64}
+use mir.Val.{Fits}
 use Rattle.requests.specs.Bits.{bitAt}
 use Rattle.requests.proofs.Digits.{bit-past}
 use Rattle.requests.proofs.bits.bit_at.Statement.{statement}
@@ -23,11 +25,15 @@ cast-result c = search needs
 shr-result : tie.Need-shr-result
 shr-result c = search needs
 
+-- A part of a byte fits a word, whatever it is divided by.
+quotient-fits : (byte k : ℕ) → byte < 256 → Fits w64 (byte / k)
+quotient-fits byte k h = record { fits = omega (arith, div-le-self byte k) }
+
 cast-result-2 : tie.Need-cast-result-2
 cast-result-2 c =
     let s = c .before .before .args .s .now in
     let i = c .before .before .args .i in
-    omega (arith, div-le-self (getD s (i / 8) 0) (2 ^ (7 - i % 8)), c .shared-slice-known .given (i / 8))
+    quotient-fits (getD s (i / 8) 0) _ (omega (arith, c .shared-slice-known .given (i / 8)))
 
 returns : tie.Need-returns
 unfolding bitAt
