@@ -74,14 +74,14 @@ fn expected(report: &mut Report, bytes: &[u8]) -> String {
     lines::of(&planned)
 }
 
-/// Mostly the program's own room; exactly enough, one byte more or fewer, or none in the other cases.
+/// Exactly enough or some bytes more; in some cases one byte too few, none, or the program's own room.
 fn room(dice: &mut Dice, text: usize) -> usize {
-    match dice.whole(0, 15) {
-        0 => text,
-        1 => text + 1,
-        2 => text - 1,
-        3 => 0,
-        _ => WHOLE,
+    match dice.whole(0, 63) {
+        0..=3 => text - 1,
+        4 => 0,
+        5 => WHOLE,
+        6..=20 => text,
+        _ => text + 100,
     }
 }
 
