@@ -2,4 +2,3 @@ pub mod Rows
 pub mod Roomed
 pub mod Asked
 pub mod Lengths
-pub mod Printed

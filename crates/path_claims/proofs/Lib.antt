@@ -10,4 +10,3 @@ pub mod Calls
 mod Made
 pub mod Whole
 pub mod LargerBudget
-pub mod Marked

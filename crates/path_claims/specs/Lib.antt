@@ -1,4 +1,3 @@
 pub mod Origin
 pub mod Driven
 pub mod Whole
-pub mod Marked

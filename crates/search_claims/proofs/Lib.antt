@@ -1,4 +1,3 @@
 pub mod RealLegs
 mod Table
 pub mod DemandThree
-pub mod Marked

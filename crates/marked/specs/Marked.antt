@@ -1,12 +1,14 @@
--- The marked examples of two legs, P6 to P9, and of a whole plan, P10 (RULES 16.6 to 16.11), of the calls themselves.
+-- The marked examples of document 01, P1 to P10, in one table (RULES, section 16), each of the call itself. They hold: `marked` of
+-- proofs/Marked.
 -- Assumes nothing.
 use Prim.Native.Nat.{ℕ, _*_}
 use mathlib.Core.Path.{_≡_}
-use mathlib.Core.List.{[], _∷_}
+use mathlib.Core.List.{List, [], _∷_, _++_, map}
 use lib.IntN.{pos}
 use lib.Ieee.{Float, binary64, ofBits}
 use Rattle.numbers.specs.declared.time.Duration.{Duration}
 use Rattle.numbers.specs.declared.time.TimePoint.{TimePoint}
+use Rattle.shapes.specs.Distance.{criticalDistanceSquared}
 use Rattle.shapes.specs.declared.profile.CircularProfile.{CircularProfile}
 use Rattle.shapes.specs.declared.waypoint.Leg.{Leg}
 use Rattle.shapes.specs.declared.waypoint.Waypoint.{Waypoint}
@@ -17,10 +19,15 @@ use Rattle.conflicts.specs.declared.conflict.Verdict.the-variants as J
 use Rattle.obstacles.specs.Lent.{Lent, lentOf}
 use Rattle.ranking.specs.Hints.{held}
 use Rattle.hints.specs.Asked.{askedHints}
+use Rattle.arrivals.specs.Search as A
+use Rattle.search.specs.Asked.{askedArrivals}
 use Rattle.actions.specs.declared.action.SafeAction.the-variants.{Move, Wait}
 use Rattle.plans.specs.Asked.{askedPlan}
 use Rattle.plans.specs.Laid.{planNumber, planRoom, actionRoomOf}
 use Rattle.plans.specs.Plan.{Plan, Planned, Refused}
+use Rattle.requests.specs.Crossing.{crossingStream}
+use Rattle.texts.specs.Letters.{bytesOf}
+use Rattle.answering.specs.Text.{streamText}
 
 -- ---- Numbers.
 
@@ -83,6 +90,23 @@ stay = way zero zero zero zero
 abbrev cart : CircularProfile
 cart = record { footprint = half; follow = zero }
 
+-- The place (0, 0), asked for from such an instant on, in P1 to P5.
+abbrev here : ℕ → Waypoint
+here = on zero zero
+
+-- The table of one such cart that drives along the line y = 0 by way of these waypoints.
+abbrev other : List Waypoint → Lent
+other ws = lentOf (0 ∷ []) (half ∷ (zero ∷ (one ∷ []))) (map (λ w. w .time .0) ws) (map (λ w. w .x) ws) (map (λ w. w .y) ws)
+
+abbrev passing : Lent
+passing = other (on minusThree zero 0 ∷ (on three zero 6_000 ∷ []))
+
+abbrev stopping : Lent
+stopping = other (on minusThree zero 0 ∷ (on zero zero 3_000 ∷ []))
+
+abbrev turning : Lent
+turning = other (on three zero 0 ∷ (on one zero 2_000 ∷ (on three zero 4_000 ∷ [])))
+
 -- The way of the agent in P8 and P10, and the cart that it meets in each.
 abbrev ahead : Leg
 ahead = way zero zero ten zero 10_000
@@ -104,7 +128,31 @@ planWith budget = askedPlan cart ahead budget crossing
 
 -- ---- Answers.
 
+-- The plan of P10: to (4, 0) by 4 s, waiting there for the cart until 6 s, and on to the goal by 12 s.
+abbrev pub crossingPlan : Plan
+crossingPlan =
+    Planned 1 1 1
+    (record {
+      arrival = at 10_000;
+      pops = 1;
+      hold = lasting 2_000;
+      actions = Move (on four zero 4_000) ∷ (Wait 0 (at 6_000) ∷ (Move (on ten zero 12_000) ∷ []));
+    } ∷ [])
+
 pub record Marked : Type 0 where
+  -- The limit is 1 (RULES, section 16).
+  pub limit : criticalDistanceSquared cart cart ≡ one
+  -- A cart that passes is near from 2 s to 4 s: listed are the time asked for and its exit (RULES 16.1).
+  pub p1-near : askedProximity one (stay 6_000) (way minusThree zero three zero 6_000) ≡ P.Passes (at 2_000) (at 4_000)
+  pub p1 : askedArrivals cart (here 0) passing ≡ A.Answered (at 0 ∷ (at 4_000 ∷ [])) 2
+  -- Asked while it is near, its exit (RULES 16.2).
+  pub p2 : askedArrivals cart (here 3_000) passing ≡ A.Answered (at 4_000 ∷ []) 2
+  -- A cart that stops at the place: the time asked for (RULES 16.3).
+  pub p3 : askedArrivals cart (here 0) stopping ≡ A.Answered (at 0 ∷ []) 2
+  -- Asked while it is near, none (RULES 16.4).
+  pub p4 : askedArrivals cart (here 2_500) stopping ≡ A.Answered [] 2
+  -- A cart that touches the clearance and turns away leaves the search stuck (RULES 16.5).
+  pub p5 : askedArrivals cart (here 0) turning ≡ A.Refused 8
   -- A cart that creeps away over the limit is refused (RULES 16.6),
   pub p6 : askedProximity one (stay 1_000_000) (way one zero little zero 1_000_000) ≡ P.Refused 5
   -- and one that creeps within it stays near (RULES 16.7).
@@ -123,15 +171,8 @@ pub record Marked : Type 0 where
         hint = record { place = record { x = four; y = zero }; until = at 6_000; obstacle = 0 };
       } ∷ []
   -- and one path (RULES 16.11),
-  pub p10 : planWith 4_096 ≡
-      Planned 1 1 1
-      (record {
-        arrival = at 10_000;
-        pops = 1;
-        hold = lasting 2_000;
-        actions = Move (on four zero 4_000) ∷ (Wait 0 (at 6_000) ∷ (Move (on ten zero 12_000) ∷ []));
-      } ∷ [])
-  -- handed over in these words, four for a line (RULES 15.1 to 15.4);
+  pub p10 : planWith 4_096 ≡ crossingPlan
+  -- handed over in these words, four for a line (RULES 15.1 to 15.4),
   pub p10-number : planNumber (planWith 4_096) 8 12 ≡ 0
   pub p10-paths : planRoom (planWith 4_096) 8 12 ≡
       1 ∷ (1 ∷ (1 ∷ (1 ∷ (10_000_000_000 ∷ (1 ∷ (2_000_000_000 ∷ (3 ∷ [])))))))
@@ -139,6 +180,12 @@ pub record Marked : Type 0 where
       1 ∷ (4_000_000_000 ∷ (0x4010_0000_0000_0000 ∷ (0 ∷
       (2 ∷ (0 ∷ (6_000_000_000 ∷ (0 ∷
       (1 ∷ (12_000_000_000 ∷ (0x4024_0000_0000_0000 ∷ (0 ∷ [])))))))))))
+  -- and printed, from the bytes of its stream, in these lines (RULES 16.11);
+  pub p10-printed : streamText crossingStream ≡
+      bytesOf "ok 1 1 1 1\n" ++
+      (bytesOf "path 10000000000 1 2000000000\n" ++
+      (bytesOf "move 4000000000 4010000000000000 0000000000000000\n" ++
+      (bytesOf "wait 0 6000000000\n" ++ bytesOf "move 12000000000 4024000000000000 0000000000000000\n")))
   -- without a pop it is refused (RULES 13.21).
   pub p10-spent : planWith 0 ≡ Refused 11
   -- The same way in 9 ns is one Move (RULES 13.4, 15.9).

@@ -1,4 +1,4 @@
--- The marked examples of two legs and of a whole plan hold: each is worked out by the prover (RULES 16.6 to 16.11, 18.10).
+-- The marked examples hold: each is worked out by the prover (RULES, section 16, 18.10).
 -- Assumes nothing.
 use mathlib.Core.Path.{refl}
 use lib.Ieee
@@ -33,15 +33,16 @@ use Rattle.ranking.specs.Hints as R
 use Rattle.ranking.specs.Ranked.{inserted}
 use Rattle.obstacles.specs.Obstacle.{legsOf, widened, boxOfTrajectory}
 use Rattle.obstacles.specs.Lent.{waypointsOf, boxOf, obstaclesWith, obstaclesOf}
-use Rattle.obstacles.specs.Examined.{tiles, isLaid, isTrajectory, legsInAll, isFew, isShaped, isAllowed, areAllowed, agentExamined}
+use Rattle.obstacles.specs.Examined.{tiles, isLaid, isTrajectory, legsInAll, isFew, isShaped, isAllowed, areAllowed}
+use Rattle.obstacles.specs.Examined.{agentExamined}
 use Rattle.hints.specs.Asked.{askedHints}
 use Rattle.hints.specs.Contour.{scaleOf, contourOf, gradeOf, gradedOnto, rankedHints}
 use Rattle.hints.specs.LegHints.{partOf, withPart, withLeg}
 use Rattle.hints.specs.Walk.{gapsOf, nearLeg, withLegs, withObstacle, withObstacles, hintsOf}
 use Rattle.segments.specs.Segment.{isDuring, legVerdict, firstOf, obstacleVerdict, segmentOf}
-use Rattle.arrivals.specs.Legs.{meets, follows}
-use Rattle.arrivals.specs.Search.{legsIn, moving, look, adjust, nextIn, next, soonest, sweep, turn, search, arrivals}
-use Rattle.search.specs.Watched.{standing, nearOf, watchedLegs, watchedAll, arrivalsAt}
+use Rattle.arrivals.specs.Legs.{meets, follows, relieved, sooner}
+use Rattle.arrivals.specs.Search.{legsIn, moving, look, adjust, nextIn, next, soonest, sweep, turn, search, arrivals, flee}
+use Rattle.search.specs.Watched.{standing, nearOf, watchedLegs, watchedAll, arrivalsAt, endsNear}
 use Rattle.chains.specs.Handed.{chainOf, linksIn}
 use Rattle.chains.specs.Recursive.{recursiveSearch}
 use Rattle.ways.specs.Roots.{lateness, goalContour, below, level, firstRoot}
@@ -56,34 +57,37 @@ use Rattle.arrival_paths.specs.Path.{alongHints, taken, byHints, pathFor}
 use Rattle.plans.specs.Asked.{askedPlan}
 use Rattle.plans.specs.Laid.{planNumber, planRoom, actionRoomOf}
 use Rattle.plans.specs.Plan.{pathsFor, pathsPlanned, timesPlanned, hintsPlanned, longPlan, shortPlan, planOf, allActions}
-use Rattle.path_claims.specs.Marked.{Marked}
+use Rattle.search.specs.Asked.{askedArrivals}
+use Rattle.marked.specs.Marked.{Marked}
+use Rattle.marked.proofs.Printed.{printed}
 
 pub marked : Marked
 unfolding askedProximity askedConflict cartsExamined legsExamined askedHints askedPlan withNumbers isBudget agentExamined
-    isShaped isLaid tiles listed every isFew legsInAll isTrajectory areAllowed isAllowed
-    isProfile isRadius isBetween isLeg isWaypoint isTime isCoordinate isLimit isBackward isRising isBrief
-    obstaclesOf obstaclesWith waypointsOf boxOf boxOfTrajectory widened legsOf
-    criticalDistanceSquared criticalDistance largerOf smallerOf sizeOf
-    boxOfPoint incorporating inflated boxOfLeg overlap placeOf sum difference scaled divided dotOf
-    proximityOf longRange meetingFrom motionAt holds isInside crossing passage conflictOf closingAt enteredAt
-    segmentOf obstacleVerdict firstOf legVerdict isDuring
-    runOf courseOf acrossQuadratic outlasting pastEnd spellOf nearLine normOf directionOf stationaryProximity
-    W.refusedBy W.noHints W.held W.isGoing W.withHint W.withWait W.after isPlaced
-    crossingWait besideLine beforeCrossing agentAfter standingWait
-    hintsOf withObstacles withObstacle withLegs nearLeg gapsOf withLeg withPart partOf
-    rankedHints gradedOnto gradeOf contourOf scaleOf R.refusedBy R.noHints R.held R.withRanked inserted
-    arrivalsAt watchedAll watchedLegs standing nearOf
-    arrivals legsIn moving search turn sweep adjust look meets follows soonest next nextIn
-    chainFrom recursiveSearch toParent startsAt stopIn chainOf linksIn
-    straight fromStart waitsAt toGoal toEnd reachedFrom waypointOf wayOf bothWays firstRoot level below goalContour lateness
-    planOf shortPlan longPlan hintsPlanned timesPlanned pathsPlanned pathsFor
-    pathFor byHints taken alongHints hintsAt built ended stopped holdAfter
-    planNumber planRoom actionRoomOf hasRoom wordsIn allActions actionWords
-    rootOf units rootPattern wholeRoot
-    laterOf earlierOf spanBetween spanSum inReach secondsOf instantAfterSeconds spanOfSeconds instantAfter
-    Ieee.ofBits Ieee.ofInt Ieee.add Ieee.sub Ieee.mul Ieee.div Ieee.le Ieee.toSigned Ieee.toBits
+    isShaped isLaid tiles listed every isFew legsInAll isTrajectory areAllowed isAllowed isProfile isRadius isBetween isLeg
+    isWaypoint isTime isCoordinate isLimit isBackward isRising isBrief obstaclesOf obstaclesWith waypointsOf boxOf
+    boxOfTrajectory widened legsOf criticalDistanceSquared criticalDistance largerOf smallerOf sizeOf boxOfPoint
+    incorporating inflated boxOfLeg overlap placeOf sum difference scaled divided dotOf proximityOf longRange meetingFrom
+    motionAt holds isInside crossing passage conflictOf closingAt enteredAt segmentOf obstacleVerdict firstOf legVerdict
+    isDuring runOf courseOf acrossQuadratic outlasting pastEnd spellOf nearLine normOf directionOf stationaryProximity
+    W.refusedBy W.noHints W.held W.isGoing W.withHint W.withWait W.after isPlaced crossingWait besideLine beforeCrossing
+    agentAfter standingWait hintsOf withObstacles withObstacle withLegs nearLeg gapsOf withLeg withPart partOf rankedHints
+    gradedOnto gradeOf contourOf scaleOf R.refusedBy R.noHints R.held R.withRanked inserted arrivalsAt watchedAll
+    watchedLegs standing nearOf arrivals legsIn moving search turn sweep adjust look meets follows soonest next nextIn
+    chainFrom recursiveSearch toParent startsAt stopIn chainOf linksIn straight fromStart waitsAt toGoal toEnd reachedFrom
+    waypointOf wayOf bothWays firstRoot level below goalContour lateness planOf shortPlan longPlan hintsPlanned timesPlanned
+    pathsPlanned pathsFor pathFor byHints taken alongHints hintsAt built ended stopped holdAfter planNumber planRoom
+    actionRoomOf hasRoom wordsIn allActions actionWords rootOf units rootPattern wholeRoot laterOf earlierOf spanBetween
+    spanSum inReach secondsOf instantAfterSeconds spanOfSeconds instantAfter Ieee.ofBits Ieee.ofInt Ieee.add Ieee.sub
+    Ieee.mul Ieee.div Ieee.le Ieee.toSigned Ieee.toBits askedArrivals endsNear flee relieved sooner Ieee.lt
 marked =
     record {
+      limit = refl;
+      p1-near = refl;
+      p1 = refl;
+      p2 = refl;
+      p3 = refl;
+      p4 = refl;
+      p5 = refl;
       p6 = refl;
       p7 = refl;
       p8-near = refl;
@@ -95,6 +99,7 @@ marked =
       p10-number = refl;
       p10-paths = refl;
       p10-actions = refl;
+      p10-printed = printed refl;
       p10-spent = refl;
       p10-brief = refl;
     }

@@ -1,0 +1,2 @@
+mod Printed
+pub mod Marked
