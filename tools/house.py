@@ -22,7 +22,7 @@ CRATES = "crates.txt"
 FLOORS = {
     "numbers": "lists floats root numbers",
     "geometry": "shapes proximity conflicts lines obstacles segments",
-    "hints": "waits waiting following ranking hints",
+    "hints": "waits waiting following ranking finding hints",
     "search": "arrivals search search_claims chains ways paths actions arrival_paths plans path_claims refusal_claims",
     "program": "handing exports texts requests answering plan replay",
 }

@@ -34,10 +34,10 @@ use Rattle.ranking.specs.Ranked.{inserted}
 use Rattle.obstacles.specs.Obstacle.{legsOf, widened, boxOfTrajectory}
 use Rattle.obstacles.specs.Lent.{waypointsOf, boxOf, obstaclesWith, obstaclesOf}
 use Rattle.obstacles.specs.Examined.{tiles, isLaid, isTrajectory, legsInAll, isFew, isShaped, isAllowed, areAllowed, agentExamined}
+use Rattle.finding.specs.LegHints.{partOf, withPart, withLeg}
+use Rattle.finding.specs.Walk.{gapsOf, nearLeg, withLegs, withObstacle, withObstacles, hintsOf}
 use Rattle.hints.specs.Asked.{askedHints}
 use Rattle.hints.specs.Contour.{scaleOf, contourOf, gradeOf, gradedOnto, rankedHints}
-use Rattle.hints.specs.LegHints.{partOf, withPart, withLeg}
-use Rattle.hints.specs.Walk.{gapsOf, nearLeg, withLegs, withObstacle, withObstacles, hintsOf}
 use Rattle.segments.specs.Segment.{isDuring, legVerdict, firstOf, obstacleVerdict, segmentOf}
 use Rattle.arrivals.specs.Legs.{meets, follows}
 use Rattle.arrivals.specs.Search.{legsIn, moving, look, adjust, nextIn, next, soonest, sweep, turn, search, arrivals}

@@ -1,4 +1,4 @@
--- `hints::leg_hints::part_of` meets its contract: its tests are the definition's, with 0 by its bits.
+-- `finding::leg_hints::part_of` meets its contract: its tests are the definition's, with 0 by its bits.
 -- Assumes nothing.
 use mathlib.Core.Path.{_≡_, sym, _∙_}
 use mathlib.Core.Bool.{true, not, _&&_}
@@ -7,9 +7,9 @@ use borrow.Author.Tests.{not-true, not-false}
 use lib.Signed.{ltZ}
 use lib.Ieee.{le, ofBits}
 use Rattle.floats.specs.Size.{nought}
-use Rattle.hints.specs.LegHints.{partOf}
-use Rattle.hints.proofs.leg_hints.part_of.Statement.{statement}
-use Rattle.hints.proofs.leg_hints.part_of.Tie as tie
+use Rattle.finding.specs.LegHints.{partOf}
+use Rattle.finding.proofs.leg_hints.part_of.Statement.{statement}
+use Rattle.finding.proofs.leg_hints.part_of.Tie as tie
 
 returns : tie.Need-returns
 unfolding partOf ofBits

@@ -9,7 +9,7 @@ use waiting::oncoming;
 use waiting::standing;
 use waits::wait_hints::WaitHints;
 ghost use mathlib.Core.Path.{_≡_};
-ghost use Rattle.hints.specs.LegHints.{partOf, withPart, withLeg};
+ghost use Rattle.finding.specs.LegHints.{partOf, withPart, withLeg};
 
 // What follows the crossing hint: the leg comes on, outpaces the agent, is followed, or stands.
 pub enum Part {

@@ -1,9 +1,9 @@
--- `hints::walk::gaps_of` meets its contract: each distance is the definition's.
+-- `finding::walk::gaps_of` meets its contract: each distance is the definition's.
 -- Assumes nothing.
 use borrow.Author.Needs.{needs}
-use Rattle.hints.specs.Walk.{gapsOf}
-use Rattle.hints.proofs.walk.gaps_of.Statement.{statement}
-use Rattle.hints.proofs.walk.gaps_of.Tie as tie
+use Rattle.finding.specs.Walk.{gapsOf}
+use Rattle.finding.proofs.walk.gaps_of.Statement.{statement}
+use Rattle.finding.proofs.walk.gaps_of.Tie as tie
 
 critical-distance-for-requires : tie.Need-critical-distance-for-requires
 critical-distance-for-requires c κs = search needs

@@ -1,4 +1,4 @@
--- `hints::walk::with_obstacles` meets its contract: at each turn the walk from here on, behind what was found, is the whole one.
+-- `finding::walk::with_obstacles` meets its contract: at each turn the walk from here on, behind what was found, is the whole.
 -- Assumes nothing.
 use Prim.Native.Nat.{ℕ, _-_, _*_, _<_, _^_}
 use mathlib.Core.Path.{_≡_, sym, _∙_}
@@ -11,10 +11,10 @@ use Rattle.obstacles.specs.Obstacle.{Obstacle}
 use Rattle.obstacles.specs.Lent.{lentOf, obstacleIn, obstaclesWith}
 use Rattle.obstacles.specs.Boxes.{boxIn}
 use Rattle.waits.specs.Hints.{noHints}
-use Rattle.hints.specs.Walk.{withObstacle, withObstacles}
-use Rattle.hints.proofs.Walking.{obstacles-walked, obstacle-goes-on, obstacle-ends, obstacle-legs}
-use Rattle.hints.proofs.walk.with_obstacles.Statement.{statement}
-use Rattle.hints.proofs.walk.with_obstacles.Tie as tie
+use Rattle.finding.specs.Walk.{withObstacle, withObstacles}
+use Rattle.finding.proofs.Walking.{obstacles-walked, obstacle-goes-on, obstacle-ends, obstacle-legs}
+use Rattle.finding.proofs.walk.with_obstacles.Statement.{statement}
+use Rattle.finding.proofs.walk.with_obstacles.Tie as tie
 
 abbrev Inv-loop : tie.InvT-loop
 Inv-loop agent p bounds starts numbers times xs ys boxes found₀ o₀ found o =

@@ -16,8 +16,8 @@ use Rattle.waiting.specs.Standing.{standingWait}
 use Rattle.waiting.specs.Oncoming.{oncomingWait}
 use Rattle.following.specs.Follow.{following}
 use Rattle.following.specs.declared.chase.Gaps.{Gaps}
-use Rattle.hints.specs.declared.leg_hints.Part.{Part}
-use Rattle.hints.specs.declared.leg_hints.Part.the-variants.{Oncoming, Outpacing, Following, Standing}
+use Rattle.finding.specs.declared.leg_hints.Part.{Part}
+use Rattle.finding.specs.declared.leg_hints.Part.the-variants.{Oncoming, Outpacing, Following, Standing}
 
 -- 1e-2 m/s: a leg that goes along no faster stands.
 abbrev pub slowest : Float

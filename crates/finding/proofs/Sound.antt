@@ -39,10 +39,10 @@ use Rattle.waiting.specs.Oncoming.{oncomingWait}
 use Rattle.waiting.proofs.OnDomain.{Waited, NeverRefused, crossing-waited, standing-waited, oncoming-waited}
 use Rattle.following.specs.declared.chase.Gaps.{Gaps}
 use Rattle.following.proofs.Sound.{following-sound}
-use Rattle.hints.specs.LegHints.{partOf, withPart, withLeg}
-use Rattle.hints.specs.Walk.{gapsOf, hintBox, nearLeg, withLegs, withObstacle, withObstacles, hintsOf}
-use Rattle.hints.specs.declared.leg_hints.Part.{Part}
-use Rattle.hints.specs.declared.leg_hints.Part.the-variants as P
+use Rattle.finding.specs.LegHints.{partOf, withPart, withLeg}
+use Rattle.finding.specs.Walk.{gapsOf, hintBox, nearLeg, withLegs, withObstacle, withObstacles, hintsOf}
+use Rattle.finding.specs.declared.leg_hints.Part.{Part}
+use Rattle.finding.specs.declared.leg_hints.Part.the-variants as P
 
 -- What a part answers is stored, where each refusal that it has may be.
 part-stored : {may : ℕ → Type 0} (hints : WaitHints) (wait : Wait) (obstacle : ℕ) →

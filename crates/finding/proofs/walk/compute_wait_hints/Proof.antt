@@ -1,10 +1,10 @@
--- `hints::walk::compute_wait_hints` meets its contract: a refusal, none where the agent hardly moves, or all hints.
+-- `finding::walk::compute_wait_hints` meets its contract: a refusal, none where the agent hardly moves, or all hints.
 -- Assumes nothing.
 use mathlib.Core.Path.{sym, _∙_}
 use borrow.Author.Needs.{needs}
-use Rattle.hints.specs.Walk.{hintsOf}
-use Rattle.hints.proofs.walk.compute_wait_hints.Statement.{statement}
-use Rattle.hints.proofs.walk.compute_wait_hints.Tie as tie
+use Rattle.finding.specs.Walk.{hintsOf}
+use Rattle.finding.proofs.walk.compute_wait_hints.Statement.{statement}
+use Rattle.finding.proofs.walk.compute_wait_hints.Tie as tie
 
 course-of-requires : tie.Need-course-of-requires
 course-of-requires c κs = search needs

@@ -20,7 +20,7 @@ use Rattle.obstacles.specs.Obstacle.{Obstacle, legsOf}
 use Rattle.waits.specs.Hints.{noHints, refusedBy, after}
 use Rattle.waits.specs.declared.wait_hints.WaitHints.{WaitHints}
 use Rattle.following.specs.declared.chase.Gaps.{Gaps}
-use Rattle.hints.specs.LegHints.{withLeg}
+use Rattle.finding.specs.LegHints.{withLeg}
 
 -- The distances that the agent keeps from an obstacle: D, D * D and F (RULES 10.6, 10.18).
 unfoldable pub gapsOf : CircularProfile → CircularProfile → Gaps

@@ -1,13 +1,13 @@
--- `hints::leg_hints::with_leg` meets its contract: the crossing hint first, then the part, unless it was refused.
+-- `finding::leg_hints::with_leg` meets its contract: the crossing hint first, then the part, unless it was refused.
 -- Assumes nothing.
 use mathlib.Core.Path.{_≡_, sym}
 use borrow.Author.Needs.{needs}
 use Rattle.waits.specs.Hints.{withWait}
 use Rattle.waits.proofs.Storing.{going, ended, after-going, after-refused}
 use Rattle.waiting.specs.Crossing.{crossingWait}
-use Rattle.hints.specs.LegHints.{withPart, withLeg}
-use Rattle.hints.proofs.leg_hints.with_leg.Statement.{statement}
-use Rattle.hints.proofs.leg_hints.with_leg.Tie as tie
+use Rattle.finding.specs.LegHints.{withPart, withLeg}
+use Rattle.finding.proofs.leg_hints.with_leg.Statement.{statement}
+use Rattle.finding.proofs.leg_hints.with_leg.Tie as tie
 
 crossing-wait-requires : tie.Need-crossing-wait-requires
 crossing-wait-requires c κs = search needs

@@ -16,7 +16,7 @@ ghost use Rattle.lists.specs.Listed.{listedTo};
 ghost use Rattle.obstacles.specs.Lent.{lentOf, obstaclesWith, legIn};
 ghost use Rattle.obstacles.specs.Boxes.{boxIn};
 ghost use Rattle.waits.specs.Hints.{noHints};
-ghost use Rattle.hints.specs.Walk.{gapsOf, nearLeg, withLegs, withObstacles, hintsOf};
+ghost use Rattle.finding.specs.Walk.{gapsOf, nearLeg, withLegs, withObstacles, hintsOf};
 
 // The distances that the agent keeps from an obstacle.
 fn gaps_of(p: CircularProfile, other: CircularProfile) -> Gaps

@@ -1,12 +1,12 @@
--- `hints::walk::near_leg` meets its contract: its box and its test are the definition's, and then its leg in motion.
+-- `finding::walk::near_leg` meets its contract: its box and its test are the definition's, and then its leg in motion.
 -- Assumes nothing.
 use mathlib.Core.Path.{_≡_, sym, _∙_}
 use borrow.Author.Needs.{needs}
 use Rattle.floats.proofs.Tests.{found-true, found-false}
 use Rattle.shapes.specs.Box.{overlap}
-use Rattle.hints.specs.Walk.{hintBox, nearLeg}
-use Rattle.hints.proofs.walk.near_leg.Statement.{statement}
-use Rattle.hints.proofs.walk.near_leg.Tie as tie
+use Rattle.finding.specs.Walk.{hintBox, nearLeg}
+use Rattle.finding.proofs.walk.near_leg.Statement.{statement}
+use Rattle.finding.proofs.walk.near_leg.Tie as tie
 
 for-line-requires : tie.Need-for-line-requires
 for-line-requires c κs = search needs

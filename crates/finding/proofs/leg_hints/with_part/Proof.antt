@@ -1,11 +1,11 @@
--- `hints::leg_hints::with_part` meets its contract: the part is the definition's, and so is what each adds.
+-- `finding::leg_hints::with_part` meets its contract: the part is the definition's, and so is what each adds.
 -- Assumes nothing.
 use mathlib.Core.Path.{_≡_, sym, _∙_}
 use borrow.Author.Needs.{needs}
 use Rattle.shapes.specs.Vector.{dotOf}
-use Rattle.hints.specs.LegHints.{partOf, withPart}
-use Rattle.hints.proofs.leg_hints.with_part.Statement.{statement}
-use Rattle.hints.proofs.leg_hints.with_part.Tie as tie
+use Rattle.finding.specs.LegHints.{partOf, withPart}
+use Rattle.finding.proofs.leg_hints.with_part.Statement.{statement}
+use Rattle.finding.proofs.leg_hints.with_part.Tie as tie
 
 dot-requires : tie.Need-dot-requires
 dot-requires c κs = search needs

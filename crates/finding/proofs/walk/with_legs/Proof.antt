@@ -1,4 +1,4 @@
--- `hints::walk::with_legs` meets its contract: at each turn the walk from here on, behind what was found, is the whole one.
+-- `finding::walk::with_legs` meets its contract: at each turn the walk from here on, behind what was found, is the whole one.
 -- Assumes nothing.
 use Prim.Native.Nat.{ℕ, _-_}
 use mathlib.Core.Path.{_≡_, refl, sym, _∙_}
@@ -7,10 +7,10 @@ use borrow.Author.Needs.{needs}
 use Rattle.lists.specs.Listed.{listedTo}
 use Rattle.shapes.specs.declared.waypoint.Leg.{Leg}
 use Rattle.obstacles.specs.Lent.{legIn}
-use Rattle.hints.specs.Walk.{nearLeg, withLegs}
-use Rattle.hints.proofs.Walking.{legs-walked, leg-goes-on, leg-ends}
-use Rattle.hints.proofs.walk.with_legs.Statement.{statement}
-use Rattle.hints.proofs.walk.with_legs.Tie as tie
+use Rattle.finding.specs.Walk.{nearLeg, withLegs}
+use Rattle.finding.proofs.Walking.{legs-walked, leg-goes-on, leg-ends}
+use Rattle.finding.proofs.walk.with_legs.Statement.{statement}
+use Rattle.finding.proofs.walk.with_legs.Tie as tie
 
 abbrev Inv-loop : tie.InvT-loop
 Inv-loop agent bounds footprint gaps obstacle times xs ys from last found₀ i₀ found i =
