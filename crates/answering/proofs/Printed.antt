@@ -8,12 +8,12 @@ use Rattle.numbers.specs.Word.{signedOf}
 use Rattle.plans.specs.Plan.{Plan, Refused, allActions}
 use Rattle.path_claims.specs.Marked.{Marked, planWith}
 use Rattle.path_claims.proofs.Marked.{marked}
-use Rattle.requests.specs.Request.{Reading, Of, Malformed}
-use Rattle.requests.specs.Format.{readOf}
+use Rattle.streams.specs.Request.{Reading, Of, Malformed}
+use Rattle.streams.specs.Format.{readOf}
+use Rattle.streams.specs.Crossing.{crossing, crossingStream}
+use Rattle.streams.proofs.Crossing.{crosses}
 use Rattle.requests.specs.Table.{legOf, startsFrom, numbersOf, pointsOf, tableOf}
 use Rattle.requests.specs.Asked.{requestPlan, streamPlan}
-use Rattle.requests.specs.Crossing.{crossing, crossingStream}
-use Rattle.requests.proofs.Crossing.{crosses}
 use Rattle.texts.specs.Letters.{bytesOf}
 use Rattle.texts.specs.Numerals.{glyph, decimalBy, decimalOf, signedText, hexBy, hexOf, countField, timeField, bitsField}
 use Rattle.texts.specs.Lines.{line, okLine, pathLine, moveLine, waitLine}

@@ -2,7 +2,7 @@
 -- Assumes nothing.
 use mathlib.Core.Path.{_≡_}
 use mathlib.Core.List.{_++_}
-use Rattle.requests.specs.Crossing.{crossingStream}
+use Rattle.streams.specs.Crossing.{crossingStream}
 use Rattle.texts.specs.Letters.{bytesOf}
 use Rattle.answering.specs.Text.{streamText}
 
