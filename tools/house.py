@@ -22,9 +22,9 @@ CRATES = "crates.txt"
 FLOORS = {
     "numbers": "lists floats root numbers",
     "geometry": "shapes proximity conflicts lines obstacles segments",
-    "hints": "waits waiting following ranking hints",
+    "hints": "waits waiting following ranking finding hints",
     "search": "arrivals search search_claims chains ways paths actions arrival_paths plans path_claims refusal_claims",
-    "program": "handing exports texts requests answering marked plan replay",
+    "program": "handing exports texts streams requests answering marked plan replay",
 }
 FLOOR_OF = {crate: number for number, crates in enumerate(FLOORS.values()) for crate in crates.split()}
 

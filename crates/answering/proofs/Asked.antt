@@ -17,8 +17,8 @@ use Rattle.plans.specs.Plan.{Path, Plan, Planned, Refused, shortPlan}
 use Rattle.path_claims.specs.Whole.{Whole, Long}
 use Rattle.path_claims.proofs.Whole.{whole}
 use Rattle.refusal_claims.proofs.Refusals.{agent-refused}
-use Rattle.requests.specs.Request.{Reading, Of, Malformed}
-use Rattle.requests.specs.Format.{readOf}
+use Rattle.streams.specs.Request.{Reading, Of, Malformed}
+use Rattle.streams.specs.Format.{readOf}
 use Rattle.requests.specs.Table.{profileOf, legOf, tableOf}
 use Rattle.requests.specs.Asked.{requestPlan, streamPlan}
 

@@ -28,13 +28,13 @@ use Rattle.ranking.specs.declared.order.RankedHint.{RankedHint}
 use Rattle.ranking.specs.declared.ranked_hints.RankedHints.{RankedHints}
 use Rattle.ranking.proofs.OneByOne.{withAllRanked, found-ranked}
 use Rattle.ranking.proofs.Theorems.{ranked-ranking, only-ranked}
-use Rattle.hints.specs.Walk.{hintsOf}
+use Rattle.finding.specs.Walk.{hintsOf}
+use Rattle.finding.proofs.Sound.{hints-sound, lasting-rises}
 use Rattle.hints.specs.Contour.{scaleOf, rankedHints}
 use Rattle.hints.specs.Asked.{askedHints}
 use Rattle.hints.specs.declared.contour.Scale.{Scale}
 use Rattle.hints.specs.declared.contour.Scaling.{Scaling}
 use Rattle.hints.specs.declared.contour.Scaling.the-variants as L
-use Rattle.hints.proofs.Sound.{hints-sound, lasting-rises}
 use Rattle.hints.proofs.Reaches.{Scaled, scale-given}
 use Rattle.hints.proofs.Graded.{InTurn, Strays, Graded, Grading, graded}
 

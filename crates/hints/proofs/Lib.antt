@@ -1,5 +1,4 @@
 mod Walking
 pub mod Reaches
-pub mod Sound
 pub mod Graded
 pub mod Answered

@@ -24,7 +24,7 @@ use Rattle.waits.specs.declared.hint.WaitHint.{WaitHint}
 use Rattle.waits.specs.declared.wait_hints.WaitHints.{WaitHints}
 use Rattle.ranking.specs.Hints.{noHints, refusedBy, withRanked}
 use Rattle.ranking.specs.declared.ranked_hints.RankedHints.{RankedHints}
-use Rattle.hints.specs.Walk.{hintsOf}
+use Rattle.finding.specs.Walk.{hintsOf}
 use Rattle.hints.specs.declared.contour.Scale.{Scale}
 use Rattle.hints.specs.declared.contour.Scaling.{Scaling}
 use Rattle.hints.specs.declared.contour.Scaling.the-variants as L

@@ -1,4 +1,2 @@
-pub mod LegHints
-pub mod Walk
 pub mod Contour
 pub mod Asked

@@ -3,7 +3,7 @@ use crate::contour;
 use crate::contour::Grade;
 use crate::contour::Scale;
 use crate::contour::Scaling;
-use crate::walk;
+use finding::walk;
 use ranking::ranked_hints::RankedHints;
 use shapes::bounding_box::BoundingBox;
 use shapes::profile::CircularProfile;

@@ -37,8 +37,8 @@ use Rattle.obstacles.specs.Examined.{tiles, isLaid, isTrajectory, legsInAll, is
 use Rattle.obstacles.specs.Examined.{agentExamined}
 use Rattle.hints.specs.Asked.{askedHints}
 use Rattle.hints.specs.Contour.{scaleOf, contourOf, gradeOf, gradedOnto, rankedHints}
-use Rattle.hints.specs.LegHints.{partOf, withPart, withLeg}
-use Rattle.hints.specs.Walk.{gapsOf, nearLeg, withLegs, withObstacle, withObstacles, hintsOf}
+use Rattle.finding.specs.LegHints.{partOf, withPart, withLeg}
+use Rattle.finding.specs.Walk.{gapsOf, nearLeg, withLegs, withObstacle, withObstacles, hintsOf}
 use Rattle.segments.specs.Segment.{isDuring, legVerdict, firstOf, obstacleVerdict, segmentOf}
 use Rattle.arrivals.specs.Legs.{meets, follows, relieved, sooner}
 use Rattle.arrivals.specs.Search.{legsIn, moving, look, adjust, nextIn, next, soonest, sweep, turn, search, arrivals, flee}

@@ -7,8 +7,8 @@ use Rattle.numbers.specs.Word.{signedOf}
 use Rattle.plans.specs.Plan.{Plan, allActions}
 use Rattle.requests.specs.Table.{legOf, startsFrom, numbersOf, pointsOf, tableOf}
 use Rattle.requests.specs.Asked.{requestPlan, streamPlan}
-use Rattle.requests.specs.Crossing.{crossing, crossingStream}
-use Rattle.requests.proofs.Crossing.{crosses}
+use Rattle.streams.specs.Crossing.{crossing, crossingStream}
+use Rattle.streams.proofs.Crossing.{crosses}
 use Rattle.texts.specs.Letters.{bytesOf}
 use Rattle.texts.specs.Numerals.{glyph, decimalBy, decimalOf, signedText, hexBy, hexOf, countField, timeField, bitsField}
 use Rattle.texts.specs.Lines.{line, okLine, pathLine, moveLine, waitLine}

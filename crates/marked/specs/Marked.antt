@@ -25,7 +25,7 @@ use Rattle.actions.specs.declared.action.SafeAction.the-variants.{Move, Wait}
 use Rattle.plans.specs.Asked.{askedPlan}
 use Rattle.plans.specs.Laid.{planNumber, planRoom, actionRoomOf}
 use Rattle.plans.specs.Plan.{Plan, Planned, Refused}
-use Rattle.requests.specs.Crossing.{crossingStream}
+use Rattle.streams.specs.Crossing.{crossingStream}
 use Rattle.texts.specs.Letters.{bytesOf}
 use Rattle.answering.specs.Text.{streamText}
 

@@ -21,9 +21,9 @@ use Rattle.obstacles.specs.Lent.{Lent, obstaclesOf}
 use Rattle.ranking.specs.Hints.{refusedBy, noHints, held}
 use Rattle.ranking.specs.declared.ranked_hints.RankedHints.{RankedHints}
 use Rattle.ranking.proofs.OneByOne.{withAllRanked, found-ranked}
+use Rattle.finding.specs.Walk.{hintsOf}
 use Rattle.hints.specs.Asked.{askedHints}
 use Rattle.hints.specs.Contour.{rankedHints}
-use Rattle.hints.specs.Walk.{hintsOf}
 use Rattle.hints.proofs.Answered.{Refusal, Answer, asked-answered}
 use Rattle.search.specs.Asked.{askedArrivals}
 use Rattle.search.specs.Watched.{arrivalsAt}

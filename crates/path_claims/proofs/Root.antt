@@ -14,8 +14,8 @@ use Rattle.obstacles.specs.Examined.{agentExamined}
 use Rattle.obstacles.specs.Lent.{Lent, obstaclesOf}
 use Rattle.ranking.specs.Hints.{refusedBy, held}
 use Rattle.ranking.specs.Ranked.{sorted}
+use Rattle.finding.specs.Walk.{hintsOf}
 use Rattle.hints.specs.Asked.{askedHints}
-use Rattle.hints.specs.Walk.{hintsOf}
 use Rattle.hints.proofs.Answered.{Refusal, asked-answered}
 use Rattle.chains.specs.declared.trial.First.the-variants.{Missing, Root}
 use Rattle.ways.specs.Roots.{firstRoot}

@@ -19,8 +19,8 @@ use Rattle.obstacles.specs.Lent.{obstaclesOf}
 use Rattle.obstacles.specs.Examined as X
 use Rattle.obstacles.specs.Examined.{isFew, isTrajectory, isShaped, agentExamined}
 use Rattle.obstacles.proofs.Legs.{length-legs}
-use Rattle.requests.specs.Request.{Obstacle}
-use Rattle.requests.specs.Format.{legsInAll, areCounted}
+use Rattle.streams.specs.Request.{Obstacle}
+use Rattle.streams.specs.Format.{legsInAll, areCounted}
 use Rattle.requests.specs.Table.{waypointOf, obstacleOf, tableOf}
 use Rattle.requests.proofs.Laid.{table-laid}
 use Rattle.requests.proofs.TableOf.{table-obstacles}

@@ -13,7 +13,7 @@ use lib.ListN.{length, getD, length-append, length-map}
 use Rattle.lists.specs.Listed.{listed, every}
 use Rattle.obstacles.specs.Lent.{startIn}
 use Rattle.obstacles.specs.Examined.{tiles, isLaid}
-use Rattle.requests.specs.Request.{Point, Obstacle}
+use Rattle.streams.specs.Request.{Point, Obstacle}
 use Rattle.requests.specs.Table.{double, startsFrom, pointsOf, timesOf, xsOf, ysOf, tableOf}
 use Rattle.requests.proofs.TableOf.{numbers-count, starts-count}
 

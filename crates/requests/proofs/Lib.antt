@@ -1,15 +1,6 @@
-pub mod Digits
 pub mod Counts
-pub mod Extents
 pub mod Placed
 pub mod Planned
-pub mod Numbers
-pub mod Packing
-pub mod Sizes
-pub mod ReadBack
-pub mod WrittenBack
-pub mod RoundTrip
 pub mod TableOf
 pub mod Laid
 pub mod Counted
-pub mod Crossing

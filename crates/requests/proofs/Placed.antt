@@ -9,8 +9,8 @@ use lib.IntN.{ℤ}
 use lib.Ieee.{Float}
 use lib.ListN.{length, take, set, length-set, length-append}
 use lib.Seq.{take-suc-set}
-use Rattle.requests.specs.Request.{Point, Obstacle}
-use Rattle.requests.specs.Format.{pointAt, pointsAt}
+use Rattle.streams.specs.Request.{Point, Obstacle}
+use Rattle.streams.specs.Format.{pointAt, pointsAt}
 use Rattle.requests.specs.Table.{double, startsFrom, numbersOf, pointsOf, timesOf, xsOf, ysOf}
 use Rattle.requests.specs.Laid.{PutPoints, PutTable}
 

@@ -15,12 +15,12 @@ use Rattle.obstacles.specs.Lent.{lentOf}
 use Rattle.plans.specs.Asked.{askedPlan}
 use Rattle.plans.specs.Laid.{PlanHanded}
 use Rattle.plans.specs.Plan.{Plan}
-use Rattle.requests.specs.Bits.{numberAt}
-use Rattle.requests.specs.Format.{obstaclesAt, requestAt, requestBits, areCounted, isFilled, isRequest}
+use Rattle.streams.specs.Bits.{numberAt}
+use Rattle.streams.specs.Format.{obstaclesAt, requestAt, requestBits, areCounted, isFilled, isRequest}
+use Rattle.streams.proofs.Counts.{length-obstacles}
 use Rattle.requests.specs.Table.{profileOf, legOf, tableOf}
 use Rattle.requests.specs.Laid.{PutTable}
 use Rattle.requests.specs.Asked.{requestPlan}
-use Rattle.requests.proofs.Counts.{length-obstacles}
 
 -- A request has counts within the table.
 pub request-counted : (s : List ℕ) (o : ℕ) → isRequest s ≡ true → o ≡ numberAt s 4 6 → areCounted (obstaclesAt s 510 o) ≡ true

@@ -14,7 +14,7 @@ use Rattle.floats.specs.Size.{nought}
 use Rattle.shapes.specs.declared.waypoint.Waypoint.{Waypoint}
 use Rattle.obstacles.specs.Obstacle as O
 use Rattle.obstacles.specs.Lent.{startIn, waypointIn, waypointsOf, boxOf, obstacleIn, obstaclesWith, obstaclesOf}
-use Rattle.requests.specs.Request.{Point, Obstacle}
+use Rattle.streams.specs.Request.{Point, Obstacle}
 use Rattle.requests.specs.Table.{
   double,
   waypointOf,

@@ -4,8 +4,8 @@ use Prim.Native.Nat.{ℕ}
 use mathlib.Core.List.{List}
 use Rattle.plans.specs.Asked.{askedPlan}
 use Rattle.plans.specs.Plan.{Plan, Refused}
-use Rattle.requests.specs.Request.{Request, Reading, Of, Malformed}
-use Rattle.requests.specs.Format.{readOf}
+use Rattle.streams.specs.Request.{Request, Reading, Of, Malformed}
+use Rattle.streams.specs.Format.{readOf}
 use Rattle.requests.specs.Table.{profileOf, legOf, tableOf}
 
 -- The plan for a request.

@@ -6,7 +6,7 @@ use mathlib.Core.List.{List, _++_}
 use lib.IntN.{ℤ}
 use lib.Ieee.{Float}
 use lib.ListN.{length, take}
-use Rattle.requests.specs.Request.{Point, Obstacle}
+use Rattle.streams.specs.Request.{Point, Obstacle}
 use Rattle.requests.specs.Table.{startsFrom, numbersOf, pointsOf, timesOf, xsOf, ysOf}
 
 -- Waypoints stand behind the first `from` of the lists.

@@ -1,9 +1,3 @@
-pub mod Bits
-pub mod Request
-pub mod Format
-pub mod Measured
-pub mod Written
 pub mod Table
 pub mod Laid
-pub mod Crossing
 pub mod Asked

@@ -11,7 +11,7 @@ use Rattle.shapes.specs.declared.waypoint.Waypoint.{Waypoint}
 use Rattle.obstacles.specs.Obstacle as O
 use Rattle.obstacles.specs.Obstacle.{boxOfTrajectory}
 use Rattle.obstacles.specs.Lent.{Lent, lentOf}
-use Rattle.requests.specs.Request.{Point, Obstacle, Request}
+use Rattle.streams.specs.Request.{Point, Obstacle, Request}
 
 -- The double of 64 bits (RULES 14.14).
 abbrev pub double : ℕ → Float

@@ -1,15 +1,15 @@
 // The plan that a stream asks for: the stream is examined, read into lists, and the plan made among them
 // (docs/RULES.md, 14.17 and 5.1).
-use crate::bits;
 use crate::fields;
-use crate::format;
 use crate::table;
 use lists::words;
 use plans::calls;
+use streams::bits;
+use streams::format;
 ghost use mathlib.Core.Path.{_≡_};
 ghost use mathlib.Core.Bool.{true};
 ghost use Rattle.plans.specs.Laid.{PlanHanded};
-ghost use Rattle.requests.specs.Format.{requestAt, isRequest};
+ghost use Rattle.streams.specs.Format.{requestAt, isRequest};
 ghost use Rattle.requests.specs.Asked.{requestPlan, streamPlan};
 
 // The plan for a stream that is a request. 256 legs of 32 obstacles have at most 288 waypoints.

@@ -1,19 +1,18 @@
 // Fields of a stream as the numbers that they stand for (docs/RULES.md, 14.14 and 14.15).
-use crate::bits;
 use numbers::time::TimePoint;
 use numbers::word;
 use shapes::profile::CircularProfile;
 use shapes::waypoint::Leg;
 use shapes::waypoint::Waypoint;
+use streams::bits;
 ghost use mathlib.Core.Path.{_≡_};
 ghost use Prim.Native.Nat.{_≤_, _+_};
-ghost use Rattle.requests.specs.Bits.{numberAt};
-ghost use Rattle.requests.specs.Format.{pointAt, requestAt};
+ghost use Rattle.streams.specs.Bits.{numberAt};
+ghost use Rattle.streams.specs.Format.{pointAt, requestAt};
 ghost use Rattle.requests.specs.Table.{double, waypointOf, profileOf, legOf};
 
 // A double of 64 bits.
 pub(crate) fn double_at(s: &[u8], at: usize) -> f64
-    requires { ⌜ at ≤ 1_000_000 ⌝ }
     ensures { λ r. ⌜ r ≡ double (numberAt (now (s .entry)) at 64) ⌝ }
 {
     word::double_of(bits::number_at(s, at, 64))

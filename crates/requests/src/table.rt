@@ -1,13 +1,13 @@
 // The obstacles of a request in lists: times and coordinates with a start for each obstacle (docs/RULES.md, 14.8 to 14.12, 20.7).
-use crate::bits;
 use crate::fields;
+use streams::bits;
 ghost use mathlib.Core.Path.{_≡_};
 ghost use mathlib.Core.Bool.{true};
 ghost use mathlib.Core.List.{_++_, _∷_, []};
 ghost use Prim.Native.Nat.{_+_, _*_, _≤_};
 ghost use lib.ListN.{length, take};
-ghost use Rattle.requests.specs.Bits.{numberAt};
-ghost use Rattle.requests.specs.Format.{pointsAt, obstaclesAt, areCounted};
+ghost use Rattle.streams.specs.Bits.{numberAt};
+ghost use Rattle.streams.specs.Format.{pointsAt, obstaclesAt, areCounted};
 ghost use Rattle.requests.specs.Table.{double};
 ghost use Rattle.requests.specs.Laid.{PutPoints, PutTable};
 

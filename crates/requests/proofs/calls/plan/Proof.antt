@@ -5,7 +5,7 @@ use borrow.Author.Needs.{needs}
 use borrow.Author.Tests.{not-true, not-false}
 use Rattle.lists.specs.Outcome.{numberOf, roomOf}
 use Rattle.plans.specs.Laid.{planNumber, planRoom, actionRoomOf}
-use Rattle.requests.specs.Format.{readOf}
+use Rattle.streams.specs.Format.{readOf}
 use Rattle.requests.specs.Asked.{streamPlan}
 use Rattle.requests.proofs.calls.plan.Statement.{statement}
 use Rattle.requests.proofs.calls.plan.Tie as tie

@@ -6,8 +6,9 @@ use native.Mathlib.Omega.{arith}
 use borrow.Author.Needs.{needs}
 use lib.ListN.{length}
 use lib.Seq.{length-take-le}
-use Rattle.requests.specs.Format.{obstaclesAt}
-use Rattle.requests.proofs.Counts.{length-obstacles, few-obstacles, few-points}
+use Rattle.streams.specs.Format.{obstaclesAt}
+use Rattle.streams.proofs.Counts.{length-obstacles, few-obstacles}
+use Rattle.requests.proofs.Counts.{few-points}
 use Rattle.requests.proofs.Planned.{request-counted, same-plan, handed-same}
 use Rattle.requests.proofs.calls.plan_request.Statement.{statement}
 use Rattle.requests.proofs.calls.plan_request.Tie as tie

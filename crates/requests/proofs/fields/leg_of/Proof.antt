@@ -1,7 +1,7 @@
 -- `requests::fields::leg_of` meets its contract: its two waypoints stand at bits 154 and 332.
 -- Assumes nothing.
 use borrow.Author.Needs.{needs}
-use Rattle.requests.specs.Format.{requestAt}
+use Rattle.streams.specs.Format.{requestAt}
 use Rattle.requests.specs.Table.{legOf}
 use Rattle.requests.proofs.fields.leg_of.Statement.{statement}
 use Rattle.requests.proofs.fields.leg_of.Tie as tie

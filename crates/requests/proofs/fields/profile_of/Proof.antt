@@ -1,7 +1,7 @@
 -- `requests::fields::profile_of` meets its contract: the profile stands at bit 26.
 -- Assumes nothing.
 use borrow.Author.Needs.{needs}
-use Rattle.requests.specs.Format.{requestAt}
+use Rattle.streams.specs.Format.{requestAt}
 use Rattle.requests.proofs.fields.profile_of.Statement.{statement}
 use Rattle.requests.proofs.fields.profile_of.Tie as tie
 

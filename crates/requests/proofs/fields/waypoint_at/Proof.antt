@@ -4,9 +4,9 @@ use native.Mathlib.Omega.{arith}
 use borrow.Author.Needs.{needs}
 use mir.Syntax.{w64}
 use mir.ValLaws.{toZ-pos}
-use Rattle.requests.specs.Bits.{numberAt}
-use Rattle.requests.specs.Format.{pointAt}
-use Rattle.requests.proofs.Digits.{number-lt}
+use Rattle.streams.specs.Bits.{numberAt}
+use Rattle.streams.specs.Format.{pointAt}
+use Rattle.streams.proofs.Digits.{number-lt}
 use Rattle.requests.proofs.fields.waypoint_at.Statement.{statement}
 use Rattle.requests.proofs.fields.waypoint_at.Tie as tie
 

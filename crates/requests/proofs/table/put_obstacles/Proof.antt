@@ -4,20 +4,20 @@ use mathlib.Core.Path.{_≡_, refl, sym, ap, _∙_}
 use Prim.Native.Nat.{_+_, _-_, _≤_, _<_}
 use native.Mathlib.Nat.{le-trans, lt-of-lt-of-le}
 use native.Mathlib.Omega.{arith}
+use borrow.Author.Needs.{needs}
 use lib.ListN.{length, length-set}
-use Rattle.requests.specs.Format.{pointsAt, obstacleAt, obstaclesAt, bitsInAll, requestBits}
-use Rattle.requests.proofs.Counts.{
+use Rattle.streams.specs.Format.{pointsAt, obstacleAt, obstaclesAt, bitsInAll, requestBits}
+use Rattle.streams.proofs.Counts.{
   length-points,
   length-obstacles,
   obstacles-done,
   obstacles-next,
   bits-next,
-  count-next,
   few-obstacles,
   few-bits,
-  few-points,
 }
-use Rattle.requests.proofs.Digits.{number-lt}
+use Rattle.streams.proofs.Digits.{number-lt}
+use Rattle.requests.proofs.Counts.{count-next, few-points}
 use Rattle.requests.proofs.Placed.{Placed, placed-first, placed-next, placed-last}
 use Rattle.requests.proofs.table.put_obstacles.Statement.{statement}
 use Rattle.requests.proofs.table.put_obstacles.Tie as tie
@@ -94,7 +94,7 @@ add-number-at : tie.Need-add-number-at Inv-loop μ-loop
 add-number-at c = omega (arith, within (c .before .before .before .before) .0)
 
 number-at-requires : tie.Need-number-at-requires Inv-loop μ-loop
-number-at-requires c κs = (omega (arith, within (c .before .before .before .before) .0), omega arith)
+number-at-requires c κs = search needs
 
 add-put-points : tie.Need-add-put-points Inv-loop μ-loop
 add-put-points c = omega (arith, within (c .before .before .before .before .before) .0)

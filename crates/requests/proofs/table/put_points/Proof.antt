@@ -8,11 +8,11 @@ use lib.ListN.{length, take, length-set}
 use lib.IntN.{pos}
 use Rattle.numbers.proofs.ReadBack.{read, read-back}
 use Rattle.shapes.specs.declared.waypoint.Waypoint.{Waypoint}
-use Rattle.requests.specs.Bits.{numberAt}
-use Rattle.requests.specs.Format.{pointAt, pointsAt}
+use Rattle.streams.specs.Bits.{numberAt}
+use Rattle.streams.specs.Format.{pointAt, pointsAt}
+use Rattle.streams.proofs.Counts.{length-points}
+use Rattle.streams.proofs.Digits.{number-lt}
 use Rattle.requests.specs.Table.{double, timesOf, xsOf, ysOf}
-use Rattle.requests.proofs.Counts.{length-points}
-use Rattle.requests.proofs.Digits.{number-lt}
 use Rattle.requests.proofs.Placed.{put-next, points-done, points-next}
 use Rattle.requests.proofs.table.put_points.Statement.{statement}
 use Rattle.requests.proofs.table.put_points.Tie as tie

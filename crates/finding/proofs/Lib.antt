@@ -1,0 +1,2 @@
+mod Walking
+pub mod Sound

@@ -1,0 +1,61 @@
+-- `finding::walk::compute_wait_hints` meets its contract: a refusal, none where the agent hardly moves, or all hints.
+-- Assumes nothing.
+use mathlib.Core.Path.{sym, _∙_}
+use borrow.Author.Needs.{needs}
+use Rattle.finding.specs.Walk.{hintsOf}
+use Rattle.finding.proofs.walk.compute_wait_hints.Statement.{statement}
+use Rattle.finding.proofs.walk.compute_wait_hints.Tie as tie
+
+course-of-requires : tie.Need-course-of-requires
+course-of-requires c κs = search needs
+
+enum-known-heading : tie.Need-enum-known-heading
+enum-known-heading c = search needs
+
+refused-by-requires : tie.Need-refused-by-requires
+refused-by-requires c κs = search needs
+
+enum-told : tie.Need-enum-told
+enum-told c = search needs
+
+none-requires : tie.Need-none-requires
+none-requires c κs = search needs
+
+enum-known-heading-2 : tie.Need-enum-known-heading-2
+enum-known-heading-2 c = search needs
+
+with-obstacles-requires : tie.Need-with-obstacles-requires
+with-obstacles-requires c κs = search needs
+
+returns : tie.Need-returns
+unfolding hintsOf
+returns c =
+    let refused = c .before .before in
+    rw (sym (refused .before .before .course-of .ensures) ∙ refused .heading .given .1) (c .refused-by .ensures)
+
+returns-2 : tie.Need-returns-2
+unfolding hintsOf
+returns-2 c =
+    let missing = c .before in
+    rw (sym (missing .before .before .course-of .ensures) ∙ missing .enum-told .given .1) (c .none .ensures)
+
+returns-3 : tie.Need-returns-3
+unfolding hintsOf
+returns-3 c =
+    let along = c .before .before in
+    rw (sym (along .before .before .course-of .ensures) ∙ along .heading2 .given .1) (c .with-obstacles .ensures)
+
+pub compute-wait-hints-spec : {M : Type 1} → statement M
+compute-wait-hints-spec =
+    tie.close
+    (tie.spec
+    course-of-requires
+    enum-known-heading
+    refused-by-requires
+    enum-told
+    none-requires
+    enum-known-heading-2
+    with-obstacles-requires
+    returns
+    returns-2
+    returns-3)

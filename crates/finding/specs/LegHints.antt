@@ -1,0 +1,46 @@
+-- The hints for one leg of an obstacle (RULES 10.8, 10.14, 10.15).
+-- Assumes nothing.
+use Prim.Native.Nat.{ℕ}
+use mathlib.Core.Bool.{cond, not, _&&_}
+use lib.Signed.{ltZ}
+use lib.Ieee
+use lib.Ieee.{Float, binary64}
+use Rattle.floats.specs.Size.{nought}
+use Rattle.shapes.specs.Vector.{dotOf}
+use Rattle.lines.specs.declared.course.Course.{Course}
+use Rattle.lines.specs.declared.course.Run.{Run}
+use Rattle.waits.specs.Hints.{withWait, after}
+use Rattle.waits.specs.declared.wait_hints.WaitHints.{WaitHints}
+use Rattle.waiting.specs.Crossing.{crossingWait}
+use Rattle.waiting.specs.Standing.{standingWait}
+use Rattle.waiting.specs.Oncoming.{oncomingWait}
+use Rattle.following.specs.Follow.{following}
+use Rattle.following.specs.declared.chase.Gaps.{Gaps}
+use Rattle.finding.specs.declared.leg_hints.Part.{Part}
+use Rattle.finding.specs.declared.leg_hints.Part.the-variants.{Oncoming, Outpacing, Following, Standing}
+
+-- 1e-2 m/s: a leg that goes along no faster stands.
+abbrev pub slowest : Float
+slowest = Ieee.ofBits binary64 0x3f84_7ae1_47ae_147b
+
+-- The part for a leg that goes along the agent's line at the speed `aligned` (RULES 10.15).
+unfoldable pub partOf : Course → Run → Float → Part
+partOf agent leg aligned =
+    cond (Ieee.le nought aligned && not (ltZ (leg .end .0) (agent .run .start .0)))
+    (cond (Ieee.le (agent .speed) aligned) Outpacing (cond (Ieee.lt slowest aligned) Following Standing))
+    Oncoming
+
+-- The hints of that part, behind those that were found before (RULES 10.14, 10.15).
+unfoldable pub withPart : Course → Run → Gaps → ℕ → WaitHints → WaitHints
+withPart agent leg gaps obstacle hints = by (partOf agent leg (dotOf (leg .velocity) (agent .direction)))
+  where
+    by : Part → WaitHints
+    by Oncoming = withWait hints (oncomingWait agent leg (gaps .squared)) obstacle
+    by Outpacing = hints
+    by Following = following agent leg gaps (dotOf (leg .velocity) (agent .direction)) obstacle hints
+    by Standing = withWait hints (standingWait agent leg (gaps .squared)) obstacle
+
+-- First the crossing hint, then the part, whatever came of it (RULES 10.8).
+unfoldable pub withLeg : Course → Run → Gaps → ℕ → WaitHints → WaitHints
+withLeg agent leg gaps obstacle hints =
+    after (withWait hints (crossingWait agent leg (gaps .squared)) obstacle) (withPart agent leg gaps obstacle)

@@ -1,0 +1,2 @@
+pub mod LegHints
+pub mod Walk

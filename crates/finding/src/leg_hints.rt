@@ -1,0 +1,71 @@
+// The hints for one leg of an obstacle: the crossing hint, then those of the part that its direction chooses
+// (docs/RULES.md, 10.8, 10.14 and 10.15).
+use following::chase::Gaps;
+use following::follow;
+use lines::course::Course;
+use lines::course::Run;
+use waiting::crossing;
+use waiting::oncoming;
+use waiting::standing;
+use waits::wait_hints::WaitHints;
+ghost use mathlib.Core.Path.{_≡_};
+ghost use Rattle.finding.specs.LegHints.{partOf, withPart, withLeg};
+
+// What follows the crossing hint: the leg comes on, outpaces the agent, is followed, or stands.
+pub enum Part {
+    Oncoming,
+    Outpacing,
+    Following,
+    Standing,
+}
+
+// The part for a leg that goes along the agent's line at the speed `aligned`.
+fn part_of(agent: Course, leg: Run, aligned: f64) -> Part
+    ensures { λ r. ⌜ r ≡ partOf agent leg aligned ⌝ }
+{
+    let run = agent.run;
+    if !(aligned >= 0.0) {
+        return Part::Oncoming;
+    }
+    if leg.end.is_before(run.start) {
+        return Part::Oncoming;
+    }
+    if agent.speed <= aligned {
+        return Part::Outpacing;
+    }
+    if aligned > 1e-2 {
+        return Part::Following;
+    }
+    Part::Standing
+}
+
+fn with_part(agent: Course, leg: Run, gaps: Gaps, obstacle: usize, hints: WaitHints) -> WaitHints
+    ensures { λ r. ⌜ r ≡ withPart agent leg gaps obstacle hints ⌝ }
+{
+    let aligned = leg.velocity.dot(agent.direction);
+    let part = part_of(agent, leg, aligned);
+    match part {
+        Part::Oncoming => {
+            let wait = oncoming::oncoming_wait(agent, leg, gaps.squared);
+            hints.with_wait(wait, obstacle)
+        }
+        Part::Outpacing => hints,
+        Part::Following => follow::follow(agent, leg, gaps, aligned, obstacle, hints),
+        Part::Standing => {
+            let wait = standing::standing_wait(agent, leg, gaps.squared);
+            hints.with_wait(wait, obstacle)
+        }
+    }
+}
+
+// The hints for a leg, behind those that were found before.
+pub fn with_leg(agent: Course, leg: Run, gaps: Gaps, obstacle: usize, hints: WaitHints) -> WaitHints
+    ensures { λ r. ⌜ r ≡ withLeg agent leg gaps obstacle hints ⌝ }
+{
+    let wait = crossing::crossing_wait(agent, leg, gaps.squared);
+    let found = hints.with_wait(wait, obstacle);
+    if found.refused != 0 {
+        return found;
+    }
+    with_part(agent, leg, gaps, obstacle, found)
+}

@@ -1,0 +1,36 @@
+-- Crossing's stream, written and read by working it out (RULES 14.1 to 14.17, 16.11).
+-- Assumes nothing.
+use mathlib.Core.Path.{refl}
+use Rattle.lists.specs.Listed.{listed, every}
+use Rattle.streams.specs.Bits.{bitAt, numberAt}
+use Rattle.streams.specs.Format.{
+  pointAt,
+  pointsAt,
+  obstacleAt,
+  obstaclesAt,
+  requestAt,
+  bitsInAll,
+  requestBits,
+  legsInAll,
+  areCounted,
+  isFilled,
+  isRequest,
+  readOf,
+}
+use Rattle.streams.specs.Written.{
+  bitsOf,
+  bitsFor,
+  pointBits,
+  obstacleFields,
+  requestFields,
+  numberIn,
+  packed,
+  written,
+}
+use Rattle.streams.specs.Crossing.{crossing, crossingStream, Crosses}
+
+pub crosses : Crosses
+unfolding crossing crossingStream written packed requestFields obstacleFields pointBits bitsFor bitsOf numberIn listed
+    readOf isRequest requestAt obstaclesAt obstacleAt pointsAt pointAt numberAt bitAt areCounted legsInAll
+    isFilled requestBits bitsInAll every
+crosses = record { writing = refl; reading = refl }

@@ -1,0 +1,10 @@
+pub mod Digits
+pub mod Counts
+pub mod Extents
+pub mod Numbers
+pub mod Packing
+pub mod Sizes
+pub mod ReadBack
+pub mod WrittenBack
+pub mod RoundTrip
+pub mod Crossing

@@ -1,0 +1,6 @@
+pub mod Bits
+pub mod Request
+pub mod Format
+pub mod Measured
+pub mod Written
+pub mod Crossing
