@@ -16,7 +16,7 @@ use Rattle.requests.specs.Crossing.{crossing, crossingStream}
 use Rattle.requests.proofs.Crossing.{crosses}
 use Rattle.texts.specs.Letters.{bytesOf}
 use Rattle.texts.specs.Numerals.{glyph, decimalBy, decimalOf, signedText, hexBy, hexOf, countField, timeField, bitsField}
-use Rattle.texts.specs.Lines.{line, okLine, pathLine, moveLine, waitLine}
+use Rattle.wording.specs.Lines.{line, okLine, pathLine, moveLine, waitLine}
 use Rattle.answering.specs.Text.{actionText, actionsText, pathText, pathsText, planText, roomed, streamText}
 use Rattle.answering.specs.Printed.{Printed}
 
