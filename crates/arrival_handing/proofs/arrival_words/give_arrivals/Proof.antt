@@ -1,9 +1,9 @@
--- `handing::arrival_words::give_arrivals` meets its contract: the refusal, or the counts and the times that are listed.
+-- `arrival_handing::arrival_words::give_arrivals` meets its contract: the refusal, or the counts and the times that are listed.
 -- Assumes nothing.
 use borrow.Author.Needs.{needs}
 use Rattle.search.specs.Words.{listingOutcome}
-use Rattle.handing.proofs.arrival_words.give_arrivals.Statement.{statement}
-use Rattle.handing.proofs.arrival_words.give_arrivals.Tie as tie
+use Rattle.arrival_handing.proofs.arrival_words.give_arrivals.Statement.{statement}
+use Rattle.arrival_handing.proofs.arrival_words.give_arrivals.Tie as tie
 
 enum-known-found : tie.Need-enum-known-found
 enum-known-found c = search needs

@@ -1,4 +1,4 @@
--- `handing::arrival_words::put_times` meets its contract: after i turns the words of the first i times stand behind the first two.
+-- `arrival_handing::arrival_words::put_times` meets its contract: after i turns the words of the first i times stand behind the first two.
 -- Assumes nothing.
 use mathlib.Core.Path.{_≡_, refl, sym, ap, _∙_}
 use mathlib.Core.List.{List, _++_, append-nil}
@@ -10,9 +10,9 @@ use lib.ListN.{length, take, getD, length-set}
 use Rattle.numbers.specs.Word.{wordOf}
 use Rattle.numbers.proofs.ReadBack.{read-back}
 use Rattle.search.specs.Words.{wordsOf}
-use Rattle.handing.proofs.ArrivalWords.{times-next}
-use Rattle.handing.proofs.arrival_words.put_times.Statement.{statement}
-use Rattle.handing.proofs.arrival_words.put_times.Tie as tie
+use Rattle.arrival_handing.proofs.ArrivalWords.{times-next}
+use Rattle.arrival_handing.proofs.arrival_words.put_times.Statement.{statement}
+use Rattle.arrival_handing.proofs.arrival_words.put_times.Tie as tie
 
 abbrev Inv-loop : tie.InvT-loop
 Inv-loop room₀ list n i₀ room i =

@@ -1,4 +1,4 @@
--- `handing::hint_words::give_hints` meets its contract: how many hints there are and the words of each, or its refusal.
+-- `hint_handing::hint_words::give_hints` meets its contract: how many hints there are and the words of each, or its refusal.
 -- Assumes nothing.
 use mathlib.Core.Path.{_≡_, refl, sym, ap, _∙_}
 use mathlib.Core.List.{List, _∷_, _++_}
@@ -11,9 +11,9 @@ use lib.Seq.{length-take-le, getD-take, take-length}
 use Rattle.ranking.specs.declared.order.RankedHint.{RankedHint}
 use Rattle.ranking.specs.Hints.{held}
 use Rattle.ranking.specs.Lent.{hintWords, allWords, hintsOutcome}
-use Rattle.handing.proofs.HintWords.{words-begin, words-next}
-use Rattle.handing.proofs.hint_words.give_hints.Statement.{statement}
-use Rattle.handing.proofs.hint_words.give_hints.Tie as tie
+use Rattle.hint_handing.proofs.HintWords.{words-begin, words-next}
+use Rattle.hint_handing.proofs.hint_words.give_hints.Statement.{statement}
+use Rattle.hint_handing.proofs.hint_words.give_hints.Tie as tie
 
 abbrev Inv-loop : tie.InvT-loop
 Inv-loop out list refused n room₀ i₀ room i =

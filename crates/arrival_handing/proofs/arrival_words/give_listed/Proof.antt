@@ -1,12 +1,12 @@
--- `handing::arrival_words::give_listed` meets its contract: the counts, the words of the times and zero after them, or 12.
+-- `arrival_handing::arrival_words::give_listed` meets its contract: the counts, the words of the times and zero after them, or 12.
 -- Assumes nothing.
 use mathlib.Core.Path.{_≡_, _∙_}
 use native.Mathlib.Omega.{arith}
 use borrow.Author.Needs.{needs}
 use lib.ListN.{length, length-set}
-use Rattle.handing.proofs.ArrivalWords.{listed-short, listed-fits}
-use Rattle.handing.proofs.arrival_words.give_listed.Statement.{statement}
-use Rattle.handing.proofs.arrival_words.give_listed.Tie as tie
+use Rattle.arrival_handing.proofs.ArrivalWords.{listed-short, listed-fits}
+use Rattle.arrival_handing.proofs.arrival_words.give_listed.Statement.{statement}
+use Rattle.arrival_handing.proofs.arrival_words.give_listed.Tie as tie
 
 held-requires : tie.Need-held-requires
 held-requires c κs = search needs

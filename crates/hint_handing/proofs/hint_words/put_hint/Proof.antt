@@ -1,4 +1,4 @@
--- `handing::hint_words::put_hint` meets its contract: the hint's six words stand from `at` on, and the rest of the room stays.
+-- `hint_handing::hint_words::put_hint` meets its contract: the hint's six words stand from `at` on, and the rest of the room stays.
 -- Assumes nothing.
 use mathlib.Core.Path.{ap, _∙_}
 use native.Mathlib.Omega.{arith}
@@ -7,9 +7,9 @@ use lib.ListN.{length-set}
 use Rattle.numbers.specs.Word.{wordOf}
 use Rattle.numbers.proofs.ReadBack.{read-back}
 use Rattle.ranking.specs.Lent.{hintWords}
-use Rattle.handing.proofs.HintWords.{six-stored}
-use Rattle.handing.proofs.hint_words.put_hint.Statement.{statement}
-use Rattle.handing.proofs.hint_words.put_hint.Tie as tie
+use Rattle.hint_handing.proofs.HintWords.{six-stored}
+use Rattle.hint_handing.proofs.hint_words.put_hint.Statement.{statement}
+use Rattle.hint_handing.proofs.hint_words.put_hint.Tie as tie
 
 of-signed-requires : tie.Need-of-signed-requires
 of-signed-requires c κs = search needs
