@@ -14,8 +14,8 @@ use Rattle.lists.specs.Rows.{wordsIn, hasRoom}
 use Rattle.actions.specs.Action.{actionRows}
 use Rattle.plans.specs.Laid.{fits, filled, planNumber, planRoom, actionRoomOf}
 use Rattle.plans.specs.Plan.{Path, Plan, Planned, Refused, pathRows, headRows, allActions}
-use Rattle.texts.specs.Lines.{okLine, refusedLine}
-use Rattle.texts.specs.Answer.{Row, rowAt, rowsOf, pathLines, planLines, answerText}
+use Rattle.wording.specs.Lines.{okLine, refusedLine}
+use Rattle.telling.specs.Answer.{Row, rowAt, rowsOf, pathLines, planLines, answerText}
 use Rattle.answering.specs.Text.{planText, pathsText, roomed}
 use Rattle.answering.proofs.Rows.{rowOfAction, rowOfPath, rows-cons, action-rows, path-rows, path-lines}
 

@@ -16,8 +16,8 @@ use Rattle.actions.specs.Action.{actionWords, actionRows}
 use Rattle.plans.specs.Plan.{Path, pathWords, pathRows, allActions}
 use Rattle.actions.specs.declared.action.SafeAction.{SafeAction}
 use Rattle.actions.specs.declared.action.SafeAction.the-variants.{Move, Wait}
-use Rattle.texts.specs.Lines.{pathLine}
-use Rattle.texts.specs.Answer.{Row, rowAt, rowsOf, actionLine, actionLines, pathLines}
+use Rattle.wording.specs.Lines.{pathLine}
+use Rattle.telling.specs.Answer.{Row, rowAt, rowsOf, actionLine, actionLines, pathLines}
 use Rattle.answering.specs.Text.{actionText, actionsText, pathText, pathsText}
 
 listed-later : {A : Type 0} (f : ℕ → A) (n i : ℕ) → listed f n (suc i) ≡ listed (λ j. f (suc j)) n i

@@ -13,7 +13,7 @@ use Rattle.actions.specs.declared.action.SafeAction.the-variants.{Move, Wait}
 use Rattle.requests.specs.Asked.{streamPlan}
 use Rattle.texts.specs.declared.room.Told.{Told}
 use Rattle.texts.specs.declared.room.Told.the-variants as T
-use Rattle.texts.specs.Lines.{okLine, pathLine, moveLine, waitLine, refusedLine}
+use Rattle.wording.specs.Lines.{okLine, pathLine, moveLine, waitLine, refusedLine}
 
 -- The line of an action (RULES 15.3, 15.4).
 unfoldable pub actionText : SafeAction → List ℕ

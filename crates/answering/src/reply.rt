@@ -1,6 +1,6 @@
 // The reply to a stream, as text in a lent room (docs/RULES.md, 14.18 and 15.1 to 15.11).
 use requests::calls;
-use texts::answer;
+use telling::answer;
 use texts::room::Told;
 ghost use mathlib.Core.Path.{_≡_};
 ghost use mathlib.Core.List.{_++_};

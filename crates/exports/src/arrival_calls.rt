@@ -1,5 +1,5 @@
 // The arrival times: the waypoint comes as plain numbers, the table of obstacles as lent lists.
-use handing::arrival_words;
+use arrival_handing::arrival_words;
 use numbers::time::TimePoint;
 use search::calls;
 use shapes::profile::CircularProfile;

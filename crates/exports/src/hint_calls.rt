@@ -1,6 +1,6 @@
 // The hints: the agent comes as plain numbers, the table of obstacles as lent lists.
 use crate::shape_calls;
-use handing::hint_words;
+use hint_handing::hint_words;
 use hints::calls;
 use shapes::profile::CircularProfile;
 ghost use Rattle.lists.specs.Outcome.{Handed};

@@ -1,2 +1,0 @@
-mod ArrivalWords
-mod HintWords

@@ -11,7 +11,7 @@ use Rattle.streams.specs.Crossing.{crossing, crossingStream}
 use Rattle.streams.proofs.Crossing.{crosses}
 use Rattle.texts.specs.Letters.{bytesOf}
 use Rattle.texts.specs.Numerals.{glyph, decimalBy, decimalOf, signedText, hexBy, hexOf, countField, timeField, bitsField}
-use Rattle.texts.specs.Lines.{line, okLine, pathLine, moveLine, waitLine}
+use Rattle.wording.specs.Lines.{line, okLine, pathLine, moveLine, waitLine}
 use Rattle.answering.specs.Text.{actionText, actionsText, pathText, pathsText, planText, roomed, streamText}
 use Rattle.marked.specs.Marked.{planWith, crossingPlan}
 

@@ -53,7 +53,7 @@ fn put_hex(out: &mut [u8], at: usize, w: u64) -> usize
 }
 
 // Puts a count.
-pub(crate) fn put_count(out: &mut [u8], at: usize, n: u64) -> usize
+pub fn put_count(out: &mut [u8], at: usize, n: u64) -> usize
     ensures { λ r. ⌜ Put (countField n) (now (out .entry)) at (now (out .exit)) r ⌝ }
 {
     let next = room::put_byte(out, at, b' ');
@@ -61,7 +61,7 @@ pub(crate) fn put_count(out: &mut [u8], at: usize, n: u64) -> usize
 }
 
 // Puts a time or a span, in nanoseconds.
-pub(crate) fn put_time(out: &mut [u8], at: usize, w: u64) -> usize
+pub fn put_time(out: &mut [u8], at: usize, w: u64) -> usize
     ensures { λ r. ⌜ Put (timeField w) (now (out .entry)) at (now (out .exit)) r ⌝ }
 {
     let next = room::put_byte(out, at, b' ');
@@ -69,7 +69,7 @@ pub(crate) fn put_time(out: &mut [u8], at: usize, w: u64) -> usize
 }
 
 // Puts the bits of a double.
-pub(crate) fn put_bits(out: &mut [u8], at: usize, w: u64) -> usize
+pub fn put_bits(out: &mut [u8], at: usize, w: u64) -> usize
     ensures { λ r. ⌜ Put (bitsField w) (now (out .entry)) at (now (out .exit)) r ⌝ }
 {
     let next = room::put_byte(out, at, b' ');

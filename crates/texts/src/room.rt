@@ -11,7 +11,7 @@ pub enum Told {
 }
 
 // Puts a byte at its place and answers the place behind it, or the one past the room's end where it has no such place.
-pub(crate) fn put_byte(out: &mut [u8], at: usize, b: u8) -> usize
+pub fn put_byte(out: &mut [u8], at: usize, b: u8) -> usize
     ensures { λ r. ⌜ Put (b ∷ []) (now (out .entry)) at (now (out .exit)) r ⌝ }
 {
     if at < out.len() {
@@ -33,7 +33,7 @@ fn wipe_from(out: &mut [u8], from: usize)
 }
 
 // Hands over a text that was put before and ends at `end`: zero behind it, or 12 where the room is too small.
-pub(crate) fn settle(out: &mut [u8], end: usize) -> Told
+pub fn settle(out: &mut [u8], end: usize) -> Told
     ensures { λ r. ⌜ Settled end (now (out .entry)) (now (out .exit)) r ⌝ }
 {
     if out.len() < end {

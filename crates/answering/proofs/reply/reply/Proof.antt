@@ -7,7 +7,7 @@ use mathlib.Core.Path.{_≡_}
 use mathlib.Core.List.{List}
 use native.Mathlib.Omega.{arith}
 use lib.ListN.{length}
-use Rattle.texts.specs.Answer.{answerText}
+use Rattle.telling.specs.Answer.{answerText}
 use Rattle.requests.specs.Asked.{streamPlan}
 use Rattle.answering.specs.Text.{streamText}
 use Rattle.answering.proofs.Asked.{numbered, few}
