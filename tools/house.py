@@ -21,7 +21,7 @@ CRATES = "crates.txt"
 # The floors from low to high, and the crates of each. A name may stand here before its crate is there.
 FLOORS = {
     "numbers": "lists floats root numbers",
-    "geometry": "shapes proximity conflicts lines obstacles segments",
+    "geometry": "shapes proximity conflicts lines obstacles boxing examining segments",
     "hints": "waits waiting following ranking hints",
     "search": "arrivals search search_claims chains ways paths actions arrival_paths plans path_claims refusal_claims",
     "program": "handing exports texts requests answering plan replay",
