@@ -21,7 +21,7 @@ CRATES = "crates.txt"
 # The floors from low to high, and the crates of each. A name may stand here before its crate is there.
 FLOORS = {
     "numbers": "lists floats root numbers",
-    "geometry": "shapes proximity conflicts lines obstacles segments",
+    "geometry": "shapes proximity conflicts lines obstacles boxing examining segments",
     "hints": "waits waiting following ranking finding hints",
     "search": "arrivals search search_claims chains ways paths actions arrival_paths plans path_claims refusal_claims",
     "program": "handing hint_handing arrival_handing exports texts wording telling streams requests answering marked plan replay",

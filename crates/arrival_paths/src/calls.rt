@@ -2,14 +2,14 @@
 use crate::arrival_path;
 use crate::arrival_path::Found;
 use crate::asking;
+use boxing::boxes;
+use examining::examine;
 use hints::contour;
 use hints::contour::Scaling;
 use lists::rows;
 use lists::words;
 use numbers::time::TimePoint;
 use numbers::word;
-use obstacles::boxes;
-use obstacles::examine;
 use ranking::lent;
 use ranking::ranked_hints::RankedHints;
 use shapes::domain::Examined;

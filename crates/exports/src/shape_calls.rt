@@ -10,7 +10,7 @@ ghost use mathlib.Core.Path.{_≡_};
 ghost use Rattle.lists.specs.Outcome.{Handed};
 ghost use Rattle.shapes.specs.Distance.{criticalDistance, criticalDistanceSquared, followDistance};
 ghost use Rattle.shapes.specs.Asked.{askedDistance, askedBox, askedOverlap, distanceOutcome, boxOutcome, overlapOutcome};
-ghost use Rattle.obstacles.specs.Asked.{askedHull, hullOutcome};
+ghost use Rattle.examining.specs.Asked.{askedHull, hullOutcome};
 ghost use Rattle.exports.specs.Plain.{legOf, profileOf};
 
 // The leg from (x0, y0) at t0 to (x1, y1) at t1.
@@ -121,7 +121,7 @@ pub extern "C" fn igelbert_box_of_obstacle(
     ensures { λ r. ⌜ Handed (hullOutcome (askedHull (profileOf footprint follow) (now (times .entry)) (now (xs .entry)) (now (ys .entry)))) (now (out .entry)) (now (out .exit)) r ⌝ }
 {
     let p = CircularProfile { footprint, follow };
-    shape_words::give_hull(obstacles::calls::box_of_obstacle(p, times, xs, ys), out)
+    shape_words::give_hull(examining::calls::box_of_obstacle(p, times, xs, ys), out)
 }
 
 // Whether two boxes overlap.

@@ -1,13 +1,13 @@
 // Distances and boxes.
+use examining::calls::Hull;
 use lists::words;
 use numbers::word;
-use obstacles::calls::Hull;
 use shapes::calls::Boxed;
 use shapes::calls::Distance;
 use shapes::calls::Overlap;
 ghost use Rattle.lists.specs.Outcome.{Handed};
 ghost use Rattle.shapes.specs.Asked.{distanceOutcome, boxOutcome, overlapOutcome};
-ghost use Rattle.obstacles.specs.Asked.{hullOutcome};
+ghost use Rattle.examining.specs.Asked.{hullOutcome};
 
 pub fn give_distance(d: Distance, out: &mut [u64]) -> u64
     ensures { λ r. ⌜ Handed (distanceOutcome d) (now (out .entry)) (now (out .exit)) r ⌝ }

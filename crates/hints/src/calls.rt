@@ -1,7 +1,7 @@
 // The call for hints alone: it examines its own input, then does the work (docs/RULES.md, 4.13 and 5.1 to 5.7).
 use crate::path_hints;
-use obstacles::boxes;
-use obstacles::examine;
+use boxing::boxes;
+use examining::examine;
 use ranking::ranked_hints::RankedHints;
 use shapes::bounding_box::BoundingBox;
 use shapes::domain::Examined;

@@ -1,5 +1,4 @@
 pub mod Reading
-mod Widening
 pub mod Counting
 pub mod Legs
 pub mod Filling

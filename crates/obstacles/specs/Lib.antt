@@ -2,4 +2,3 @@ pub mod Obstacle
 pub mod Lent
 pub mod Boxes
 pub mod Examined
-pub mod Asked

@@ -1,10 +1,10 @@
 // The call for a whole plan: it examines its own input, then does the work (docs/RULES.md, 5.1 to 5.7).
 use crate::linear_paths;
 use arrival_paths::asking;
+use boxing::boxes;
+use examining::examine;
 use hints::contour;
 use hints::contour::Scaling;
-use obstacles::boxes;
-use obstacles::examine;
 use shapes::domain::Examined;
 use shapes::profile::CircularProfile;
 use shapes::waypoint::Leg;

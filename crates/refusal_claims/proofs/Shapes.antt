@@ -28,10 +28,10 @@ use Rattle.proximity.specs.declared.motion.Motion.{Motion}
 use Rattle.proximity.proofs.Arrivals.{times-given}
 use Rattle.proximity.proofs.Moving.{Motioned, there, outside, strayed, motion, never-strays}
 use Rattle.proximity.proofs.Placed.{accepted}
-use Rattle.obstacles.specs.Asked.{alone, askedHull}
 use Rattle.obstacles.specs.Examined.{isShaped, areAllowed}
-use Rattle.obstacles.specs.declared.calls.Hull.{Hull}
-use Rattle.obstacles.specs.declared.calls.Hull.the-variants as H
+use Rattle.examining.specs.Asked.{alone, askedHull}
+use Rattle.examining.specs.declared.calls.Hull.{Hull}
+use Rattle.examining.specs.declared.calls.Hull.the-variants as H
 use Rattle.refusal_claims.specs.Numbers.{LegRefusal, HullRefusal, Number, Shape, Backward}
 
 -- ---- One leg.

@@ -19,9 +19,9 @@ use Rattle.proximity.specs.declared.calls.Whereabouts.the-variants as W
 use Rattle.proximity.specs.declared.detect.Proximity.the-variants as P
 use Rattle.conflicts.specs.Asked.{askedConflict}
 use Rattle.conflicts.specs.declared.conflict.Verdict.the-variants as J
-use Rattle.obstacles.specs.Asked.{askedHull}
 use Rattle.obstacles.specs.Lent.{Lent}
-use Rattle.obstacles.specs.declared.calls.Hull.the-variants as H
+use Rattle.examining.specs.Asked.{askedHull}
+use Rattle.examining.specs.declared.calls.Hull.the-variants as H
 use Rattle.segments.specs.Asked.{askedSegment}
 use Rattle.hints.specs.Asked.{askedHints}
 use Rattle.arrival_paths.specs.Path as S

@@ -1,8 +1,8 @@
 // The safe arrival times at a place: `compute_safe_arrival_times` of the Rust (docs/RULES.md, 12.3 to 12.18).
 use crate::sweep;
 use arrivals::turn::Turn;
+use examining::examine;
 use numbers::time::TimePoint;
-use obstacles::examine;
 use shapes::profile::CircularProfile;
 use shapes::waypoint::Waypoint;
 ghost use mathlib.Core.Path.{_≡_};

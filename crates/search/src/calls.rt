@@ -1,7 +1,7 @@
 // The call for arrival times alone: it examines its own input, then does the work (docs/RULES.md, 5.1 to 5.3 and 12.18).
 use crate::arrival_times;
 use crate::arrival_times::Arrivals;
-use obstacles::examine;
+use examining::examine;
 use shapes::domain::Examined;
 use shapes::profile::CircularProfile;
 use shapes::waypoint::Leg;

@@ -1,8 +1,8 @@
 // The call for a segment: it examines its own input, then does the work (docs/RULES.md, 5.1 to 5.4).
 use crate::segment;
+use boxing::boxes;
 use conflicts::conflict::Verdict;
-use obstacles::boxes;
-use obstacles::examine;
+use examining::examine;
 use shapes::bounding_box::BoundingBox;
 use shapes::domain::Examined;
 use shapes::profile::CircularProfile;

@@ -1,7 +1,7 @@
 // Whether a segment is safe: `is_safe_segment` of the Rust (docs/RULES.md, 9.7 to 9.11).
+use boxing::boxes;
 use conflicts::conflict;
 use conflicts::conflict::Verdict;
-use obstacles::boxes;
 use obstacles::table;
 use shapes::bounding_box::BoundingBox;
 use shapes::waypoint::Leg;

@@ -1,0 +1,114 @@
+-- `examining::examine::is_trajectory` meets its contract: with two waypoints and more, the test of every leg from i on
+-- is still that of them all.
+-- Assumes nothing.
+use mathlib.Core.Path.{_≡_, ap, _∙_}
+use Prim.Native.Nat.{ℕ, _-_}
+use native.Mathlib.Omega.{arith}
+use borrow.Author.Needs.{needs}
+use borrow.Author.Tests.{eq-eqb, ne-eqb}
+use lib.ListN.{length}
+use Rattle.lists.specs.Listed.{listedTo, every}
+use Rattle.lists.proofs.Listed.{listed-done, length-listed}
+use Rattle.shapes.specs.Leg.{isRising}
+use Rattle.shapes.specs.declared.waypoint.Waypoint.{Waypoint}
+use Rattle.obstacles.specs.Lent.{waypointIn}
+use Rattle.obstacles.specs.Obstacle.{legsOf}
+use Rattle.obstacles.specs.Examined.{isTrajectory}
+use Rattle.floats.proofs.Tests.{found-true, found-false}
+use Rattle.obstacles.proofs.Legs.{legs-next, legs-done}
+use Rattle.examining.proofs.examine.is_trajectory.Statement.{statement}
+use Rattle.examining.proofs.examine.is_trajectory.Tie as tie
+
+abbrev Inv-loop : tie.InvT-loop
+Inv-loop times xs ys from to last i₀ i =
+    let w : ℕ → Waypoint = waypointIn times xs ys in
+    every isRising (legsOf (listedTo w to i)) ≡ isTrajectory (listedTo w to from)
+
+abbrev μ-loop : tie.MeasureT-loop
+μ-loop times xs ys from to last i₀ i = to - i
+
+returns : tie.Need-returns Inv-loop μ-loop
+unfolding isTrajectory legsOf every
+returns c =
+    let a = c .before .before .before .args in
+    rw (listed-done (waypointIn (a .times .now) (a .xs .now) (a .ys .now)) (a .to) (a .from) (c .if1 .taken))
+
+sub-last : tie.Need-sub-last Inv-loop μ-loop
+sub-last c = omega arith
+
+returns-2 : tie.Need-returns-2 Inv-loop μ-loop
+unfolding isTrajectory
+returns-2 c =
+    let a = c .before .before .before .before .args in
+    let w : ℕ → Waypoint = waypointIn (a .times .now) (a .xs .now) (a .ys .now) in
+    let count = length-listed w (a .to - a .from) (a .from) in
+    let single : length (listedTo w (a .to) (a .from)) ≡ 1 = omega arith in
+    rw (eq-eqb _ 1 single)
+
+loop-holds : tie.Need-loop-holds Inv-loop μ-loop
+unfolding isTrajectory
+loop-holds c =
+    let a = c .before .before .before .before .args in
+    let w : ℕ → Waypoint = waypointIn (a .times .now) (a .xs .now) (a .ys .now) in
+    let count = length-listed w (a .to - a .from) (a .from) in
+    let several : length (listedTo w (a .to) (a .from)) ≡ 1 → ⊥ = (λ e. c .if2 .left (omega arith)) in
+    rw (ne-eqb _ 1 several)
+
+add-leg-at : tie.Need-add-leg-at Inv-loop μ-loop
+add-leg-at c = omega arith
+
+leg-at-requires : tie.Need-leg-at-requires Inv-loop μ-loop
+leg-at-requires c κs = search needs
+
+is-rising-requires : tie.Need-is-rising-requires Inv-loop μ-loop
+is-rising-requires c κs = search needs
+
+returns-3 : tie.Need-returns-3 Inv-loop μ-loop
+unfolding every
+returns-3 c =
+    let found = c .before .is-rising .ensures ∙ ap isRising (c .before .before .leg-at .ensures) in
+    let l = c .before .before .before .before .loop in
+    let a = c .before .before .before .before .before .before .before .before .before .args in
+    let w : ℕ → Waypoint = waypointIn (a .times .now) (a .xs .now) (a .ys .now) in
+    rw (legs-next w (a .to) (l .i) (omega arith), found-false found (c .if3 .taken)) at (l .inv)
+
+add-i : tie.Need-add-i Inv-loop μ-loop
+add-i c = omega arith
+
+loop-less : tie.Need-loop-less Inv-loop μ-loop
+loop-less c = omega arith
+
+loop-again : tie.Need-loop-again Inv-loop μ-loop
+unfolding every
+loop-again c =
+    let found = c .before .is-rising .ensures ∙ ap isRising (c .before .before .leg-at .ensures) in
+    let l = c .before .before .before .before .loop in
+    let a = c .before .before .before .before .before .before .before .before .before .args in
+    let w : ℕ → Waypoint = waypointIn (a .times .now) (a .xs .now) (a .ys .now) in
+    rw (legs-next w (a .to) (l .i) (omega arith), found-true found (c .if3 .left)) at (l .inv)
+
+returns-4 : tie.Need-returns-4 Inv-loop μ-loop
+unfolding every
+returns-4 c =
+    let l = c .before .loop in
+    let a = c .before .before .before .before .before .before .args in
+    rw (legs-done (waypointIn (a .times .now) (a .xs .now) (a .ys .now)) (a .to) (l .i) (omega arith)) at (l .inv)
+
+pub is-trajectory-spec : {M : Type 1} → statement M
+is-trajectory-spec =
+    tie.close
+    (tie.spec
+    Inv-loop
+    μ-loop
+    returns
+    sub-last
+    returns-2
+    loop-holds
+    add-leg-at
+    leg-at-requires
+    is-rising-requires
+    returns-3
+    add-i
+    loop-less
+    loop-again
+    returns-4)

@@ -1,0 +1,40 @@
+-- What the call for an obstacle's box answers: the obstacle is examined first (RULES 5.1 to 5.3).
+-- Assumes nothing.
+use mathlib.Core.Bool.{cond}
+use mathlib.Core.List.{List, [], _∷_}
+use lib.Dec.{eqb}
+use lib.ListN.{length}
+use lib.IntN.{ℤ}
+use lib.Ieee.{Float, binary64, toBits}
+use Rattle.lists.specs.Outcome.{Outcome, Gives, Refuses}
+use Rattle.lists.specs.Listed.{listedTo}
+use Rattle.floats.specs.Size.{nought}
+use Rattle.shapes.specs.declared.profile.CircularProfile.{CircularProfile}
+use Rattle.obstacles.specs.Obstacle.{boxOfTrajectory}
+use Rattle.obstacles.specs.Lent.{Lent, waypointIn}
+use Rattle.obstacles.specs.Examined.{isShaped, areAllowed}
+use Rattle.examining.specs.declared.calls.Hull.{Hull}
+use Rattle.examining.specs.declared.calls.Hull.the-variants.{Of, Missing, Refused}
+
+-- One obstacle as a table of its own; the conflict distance plays no part in its box.
+abbrev pub alone : CircularProfile → List ℤ → List Float → List Float → Lent
+alone p times xs ys =
+    record { starts = 0 ∷ []; numbers = p .footprint ∷ (p .follow ∷ (nought ∷ [])); times = times; xs = xs; ys = ys }
+
+-- 2 for the lists and their times, 1 for the numbers; no box where it has no trajectory (RULES 7.10).
+unfoldable pub askedHull : CircularProfile → List ℤ → List Float → List Float → Hull
+askedHull p times xs ys =
+    cond (isShaped (alone p times xs ys))
+    (cond (areAllowed (alone p times xs ys))
+    (cond (eqb (length times) 0)
+    Missing
+    (Of (boxOfTrajectory (p .footprint) (listedTo (waypointIn times xs ys) (length times) 0))))
+    (Refused 1))
+    (Refused 2)
+
+-- The number and the words of each case: whether there is a box, and its bounds.
+abbrev pub hullOutcome : Hull → Outcome
+hullOutcome (Of b) =
+    Gives (1 ∷ (toBits binary64 (b .left) ∷ (toBits binary64 (b .bottom) ∷ (toBits binary64 (b .right) ∷ (toBits binary64 (b .top) ∷ [])))))
+hullOutcome Missing = Gives (0 ∷ [])
+hullOutcome (Refused n) = Refuses n
