@@ -24,7 +24,7 @@ FLOORS = {
     "geometry": "shapes proximity conflicts lines obstacles segments",
     "hints": "waits waiting following ranking hints",
     "search": "arrivals search search_claims chains ways paths actions arrival_paths plans path_claims refusal_claims",
-    "program": "handing exports texts requests answering plan replay",
+    "program": "handing exports texts requests answering contracts plan replay",
 }
 FLOOR_OF = {crate: number for number, crates in enumerate(FLOORS.values()) for crate in crates.split()}
 
