@@ -24,7 +24,7 @@ FLOORS = {
     "geometry": "shapes proximity conflicts lines obstacles boxing examining segments",
     "hints": "waits waiting following ranking finding hints",
     "search": "arrivals search search_claims chains ways paths actions arrival_paths plans path_claims refusal_claims",
-    "program": "handing hint_handing arrival_handing exports texts wording telling streams requests answering marked plan replay",
+    "program": "handing hint_handing arrival_handing exports texts wording telling streams requests answering marked contracts plan replay",
 }
 FLOOR_OF = {crate: number for number, crates in enumerate(FLOORS.values()) for crate in crates.split()}
 
