@@ -12,6 +12,8 @@ import sys
 from pathlib import Path
 from typing import NamedTuple
 
+from house import Fault
+
 RULES = "docs/RULES.md"
 COVERAGE = "docs/COVERAGE.md"
 DIFFERENCES = "docs/DIFFERENCES.md"
@@ -33,15 +35,6 @@ CITED = re.compile(
     rf"\b(?:RULES(?:\.md)?`?,?|[Rr]ules?){GAP}"
     rf"(?:(?:sections?{GAP})?({IDENT}(?:{AND}{IDENT})*)|sections?{GAP}(\d+(?:{AND}\d+)*))"
 )
-
-
-class Fault(NamedTuple):
-    file: str
-    line: int
-    text: str
-
-    def __str__(self):
-        return f"{self.file}:{self.line}: {self.text}"
 
 
 class Counts(NamedTuple):

@@ -6,13 +6,12 @@ the tool fails where the page is not what the sources say. Prints each fault wit
 prints one line of counts.
 """
 
-import argparse
 import re
 import sys
 from pathlib import Path
 from typing import NamedTuple
 
-from house import Fault, House, line_of, rattle_file
+from house import Fault, House, line_of, rattle_file, run
 
 PAGE = "docs/CONTRACTS.md"
 CLAIM = "crates/contracts/specs/NoSecond.antt"
@@ -404,25 +403,7 @@ def counts(contracts):
 
 
 def main(arguments=None):
-    parser = argparse.ArgumentParser(description=__doc__.splitlines()[0])
-    parser.add_argument("--check", action="store_true", help="write nothing, and fail where the page is out of date")
-    parser.add_argument("--root", type=Path, default=Path(__file__).resolve().parent.parent, metavar="DIR")
-    asked = parser.parse_args(arguments)
-    try:
-        contracts = check(asked.root)
-        if contracts.faults:
-            print(*contracts.faults, sep="\n")
-            return 1
-        file, text = asked.root / PAGE, page(contracts)
-        if not asked.check:
-            file.write_text(text, encoding="utf-8")
-        elif not file.is_file() or file.read_text(encoding="utf-8") != text:
-            print(f"{PAGE}:1: not what the sources say: run tools/contracts.py")
-            return 1
-    except OSError as why:
-        sys.exit(f"contracts: {why}")
-    print(counts(contracts))
-    return 0
+    return run("contracts", __doc__, check, lambda contracts: {PAGE: page(contracts)}, counts, arguments)
 
 
 if __name__ == "__main__":

@@ -291,13 +291,13 @@ def parts_of_items(house):
 
 def reached(house, crate, parts):
     """The crates that declare a type of which a value cited by the crate is made: the prover wants them named too."""
-    todo = [(cited.file, cited.item) for source in house.of(crate) for cited in source.cited]
+    waiting = [(cited.file, cited.item) for source in house.of(crate) for cited in source.cited]
     seen = set()
-    while todo:
-        item = todo.pop()
+    while waiting:
+        item = waiting.pop()
         if item not in seen:
             seen.add(item)
-            todo.extend(parts.get(item, ()))
+            waiting.extend(parts.get(item, ()))
     return {house.sources[file].crate for file, _ in seen}
 
 
@@ -515,27 +515,32 @@ def counts(house):
     return f"the house stands: {there}, none upward"
 
 
-def main(arguments=None):
-    parser = argparse.ArgumentParser(description=__doc__.splitlines()[0])
-    parser.add_argument("--check", action="store_true", help="write nothing, and fail where the files are out of date")
+def run(tool, about, check, draw, counts, arguments):
+    """The command of a tool that writes pages from the sources, and holds them to these with --check."""
+    parser = argparse.ArgumentParser(description=about.splitlines()[0])
+    parser.add_argument("--check", action="store_true", help="write nothing, and fail where a page is out of date")
     parser.add_argument("--root", type=Path, default=Path(__file__).resolve().parent.parent, metavar="DIR")
     asked = parser.parse_args(arguments)
     try:
-        house = check(asked.root)
-        if house.faults:
-            print(*house.faults, sep="\n")
+        found = check(asked.root)
+        if found.faults:
+            print(*found.faults, sep="\n")
             return 1
-        for name, text in draw(house).items():
+        for name, text in draw(found).items():
             file = asked.root / name
             if not asked.check:
                 file.write_text(text, encoding="utf-8")
             elif not file.is_file() or file.read_text(encoding="utf-8") != text:
-                print(f"{name}:1: not what the sources say: run tools/house.py")
+                print(f"{name}:1: not what the sources say: run tools/{tool}.py")
                 return 1
     except OSError as why:
-        sys.exit(f"house: {why}")
-    print(counts(house))
+        sys.exit(f"{tool}: {why}")
+    print(counts(found))
     return 0
+
+
+def main(arguments=None):
+    return run("house", __doc__, check, draw, counts, arguments)
 
 
 if __name__ == "__main__":
