@@ -5,8 +5,9 @@
  * in every word after them; on a refusal zero in all of them. A room that is too small for the
  * answer is refused 12. A signed number is its two's complement; a double is its IEEE 754 pattern.
  *
- * `out` points to `out_len` words that nothing else uses during the call. The library is compiled
- * for x86-64; link target/staticlib/libexports.a.
+ * `out` points to `out_len` words that nothing else uses during the call. The calls are compiled for
+ * x86-64; link libplan_exports.a, libgeometry_exports.a and libnumber_exports.a, which
+ * tools/static-libraries writes to target/staticlib.
  */
 #ifndef IGELBERT_H
 #define IGELBERT_H

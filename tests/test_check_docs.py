@@ -148,6 +148,13 @@ class CheckDocs(unittest.TestCase):
         self.cover(ROWS | {"again": ROWS["1.2"]})
         self.assert_only("docs/COVERAGE.md:11: rule 1.2 has a row already, on line 6")
 
+    def test_a_name_that_is_cited_is_not_open(self):
+        self.write("crates/a/src/lib.rt", CODE + "pub fn open() {}\n")
+        cited = "| 1.2 | two | by form | `crates/a/src/lib.rt` `open` | by reading |"
+        self.cover(ROWS | {"1.2": cited})
+        self.assert_only()
+        self.assertEqual(check_docs.check(self.root)[1].open_rows, 2)
+
     # (c) cells
 
     def test_empty_cell(self):

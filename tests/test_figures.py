@@ -36,6 +36,14 @@ class Figures(unittest.TestCase):
         log = "rt: a proved (5 s)\nrt: b proved (7 s)\nrt: a proved (6 s)\nrt: ok, 2 crates\n"
         self.assertEqual(tool.seconds(log), {"a": 6, "b": 7})
 
+    def test_the_seconds_of_edits_are_summed(self):
+        log = (
+            "rt: must-fail a/one: refused, as it must be (first at src/lib.rt:3:1; 4 s)\n"
+            "rt: must-fail a/two: refused, as it must be (5 s)\n"
+            "rt: must-fail b/one: NOT REFUSED: the crate is still proved with this edit (9 s)\n"
+        )
+        self.assertEqual(tool.edit_seconds(log), {"a": 9})
+
 
 if __name__ == "__main__":
     unittest.main()

@@ -120,7 +120,7 @@ def read_rows(text, rules, faults):
         for column, cell in zip(COLUMNS, cells):
             if not cell:
                 faults.append(Fault(COVERAGE, number, f"the row `{rule}` has nothing under {column}; say `open`"))
-        open_rows += any(re.search(r"\bopen\b", cell) for cell in cells[2:])
+        open_rows += any(re.search(r"\bopen\b", re.sub(r"`[^`]*`", "", cell)) for cell in cells[2:])
     for rule, line in rules.items():
         if rule not in places:
             faults.append(Fault(RULES, line, f"rule {rule} has no row in {COVERAGE}"))

@@ -1,7 +1,7 @@
 #!/usr/bin/env python3
 """Holds the three places that declare the calls for C and Rust to one another.
 
-The Rattle source (crates/exports/src) decides; include/igelbert.h and the Rust declarations in
+The Rattle source (crates/*_exports/src) decides; include/igelbert.h and the Rust declarations in
 oracle/compare/src/proved.rs must name the same functions with the same parameters. No compiler
 sees more than one of them, and a call by a wrong declaration would go wrong in silence.
 """
@@ -84,14 +84,14 @@ def complaints(rattle, header, rust):
         for name in sorted(rattle.keys() | declared.keys()):
             want, have = rattle.get(name, (None, None))[index], declared.get(name)
             if want is None:
-                yield f"{place}: {name} is no function of crates/exports"
+                yield f"{place}: {name} is no function of crates/*_exports"
             elif have is None:
                 yield f"{place}: {name} is missing: {want}"
             elif have != want:
                 yield f"{place}: {have}\n    should be: {want}"
     for name in sorted(rattle):
         if not name.startswith("igelbert_"):
-            yield f"crates/exports: {name} does not begin with igelbert_"
+            yield f"crates/*_exports: {name} does not begin with igelbert_"
 
 
 def main():
@@ -100,7 +100,7 @@ def main():
     root = parser.parse_args().root
     rattle = {}
     try:
-        for file in sorted((root / "crates/exports/src").glob("**/*.rt")):
+        for file in sorted(root.glob("crates/*_exports/src/**/*.rt")):
             rattle |= from_rattle(file.read_text())
         header = from_header((root / "include/igelbert.h").read_text())
         rust = from_rust((root / "oracle/compare/src/proved.rs").read_text())
@@ -108,7 +108,7 @@ def main():
         sys.exit(f"check_exports: {why}")
     found = list(complaints(rattle, header, rust))
     if not rattle:
-        found.append("crates/exports/src has no exported function")
+        found.append("no crate of crates/*_exports has an exported function")
     if found:
         sys.exit("\n".join(f"check_exports: {line}" for line in found))
     print(f"exports agree: {len(rattle)} functions in three places")

@@ -1,5 +1,5 @@
 #!/usr/bin/env python3
-"""Prints how large each crate is and how long its proof took, as a table for docs/FIGURES.md.
+"""Prints how large each crate is and how long its proof and its edits took, as a table for docs/FIGURES.md.
 
 Lines are those that are neither blank nor a comment alone. Seconds come from the output of `rt ci`
 or `rt prove`, where a file with it is named: tools/figures.py [LOG]
@@ -47,21 +47,30 @@ def seconds(log):
     return {name: int(taken) for name, taken in found}
 
 
+def edit_seconds(log):
+    """Crate -> seconds of all its edits, from what rt printed."""
+    taken = {}
+    for name, one in re.findall(r"^rt: must-fail (\w+)/\S+: refused, .*?(\d+) s\)$", log, re.M):
+        taken[name] = taken.get(name, 0) + int(one)
+    return taken
+
+
 def main():
     parser = argparse.ArgumentParser(description=__doc__)
     parser.add_argument("log", nargs="?", type=pathlib.Path, help="what `rt ci` printed")
     asked = parser.parse_args()
     try:
-        took = seconds(asked.log.read_text()) if asked.log else {}
+        log = asked.log.read_text() if asked.log else ""
         rows = [(name, *sizes(ROOT / "crates" / name)) for name in crates(ROOT)]
     except OSError as why:
         sys.exit(f"figures: {why}")
-    print("| Crate | Code | Definitions | Laws | Proofs of functions | Edits | Seconds |")
-    print("|---|---|---|---|---|---|---|")
+    proof, edits = seconds(log), edit_seconds(log)
+    print("| Crate | Code | Definitions | Laws | Proofs of functions | Edits | Seconds | Seconds of its edits |")
+    print("|---|---|---|---|---|---|---|---|")
     for name, *counts in rows:
-        print(f"| {name} | {' | '.join(map(str, counts))} | {took.get(name, '')} |")
+        print(f"| {name} | {' | '.join(map(str, counts))} | {proof.get(name, '')} | {edits.get(name, '')} |")
     totals = [sum(column) for column in zip(*(row[1:] for row in rows))]
-    print(f"| all | {' | '.join(map(str, totals))} | {sum(took.values()) or ''} |")
+    print(f"| all | {' | '.join(map(str, totals))} | {sum(proof.values()) or ''} | {sum(edits.values()) or ''} |")
 
 
 if __name__ == "__main__":

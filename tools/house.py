@@ -20,11 +20,13 @@ CRATES = "crates.txt"
 
 # The floors from low to high, and the crates of each. A name may stand here before its crate is there.
 FLOORS = {
-    "numbers": "lists floats root numbers",
-    "geometry": "shapes proximity conflicts lines obstacles boxing examining segments",
-    "hints": "waits waiting following ranking finding hints",
-    "search": "arrivals search search_claims chains ways paths actions arrival_paths plans path_claims refusal_claims",
-    "program": "handing hint_handing arrival_handing exports texts wording telling streams requests answering marked contracts plan replay",
+    "numbers": "lists floats root patterns numbers",
+    "geometry": "shapes limits motions proximity conflicts courses lines obstacles boxing examining segments",
+    "hints": "waits waiting chasing sawtooth following ranking lending finding hints",
+    "search": "arrivals nearing search search_claims chains ways choosing paths actions asking arrival_paths lone_paths plans planning"
+    " path_claims refusal_claims",
+    "program": "handing time_handing hint_handing arrival_handing taking number_exports geometry_exports plan_exports texts wording"
+    " telling streams requests answering marked contracts plan replay",
 }
 FLOOR_OF = {crate: number for number, crates in enumerate(FLOORS.values()) for crate in crates.split()}
 

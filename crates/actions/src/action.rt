@@ -1,7 +1,7 @@
 // What a path asks the agent to do: `SafeAction` of the Rust (docs/RULES.md, 13.23).
 use lists::rows;
 use numbers::time::TimePoint;
-use numbers::word;
+use patterns::word;
 use shapes::waypoint::Waypoint;
 ghost use mathlib.Core.Path.{_≡_};
 ghost use Rattle.lists.specs.Rows.{withRow};

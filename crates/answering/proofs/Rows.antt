@@ -11,7 +11,7 @@ use lib.Seq.{take-at, drop-at}
 use Rattle.lists.specs.Listed.{listed}
 use Rattle.lists.specs.Rows.{wordsIn}
 use Rattle.lists.proofs.Listed.{listed-same}
-use Rattle.numbers.specs.Word.{wordOf}
+use Rattle.patterns.specs.Word.{wordOf}
 use Rattle.actions.specs.Action.{actionWords, actionRows}
 use Rattle.plans.specs.Plan.{Path, pathWords, pathRows, allActions}
 use Rattle.actions.specs.declared.action.SafeAction.{SafeAction}

@@ -6,7 +6,7 @@ use mathlib.Core.List.{List, [], _∷_, _++_}
 use lib.Dec.{leb}
 use lib.Ieee.{binary64, toBits}
 use lib.ListN.{length}
-use Rattle.numbers.specs.Word.{wordOf}
+use Rattle.patterns.specs.Word.{wordOf}
 use Rattle.plans.specs.Plan.{Path, Plan, Planned, Refused, allActions}
 use Rattle.actions.specs.declared.action.SafeAction.{SafeAction}
 use Rattle.actions.specs.declared.action.SafeAction.the-variants.{Move, Wait}

@@ -11,7 +11,7 @@ use lib.ListN.{length, take, set, getD, length-map, length-take, length-set}
 use lib.Seq.{take-suc, take-suc-set}
 use Rattle.lists.specs.Outcome.{Handed, Refuses, numberOf, roomOf, wiped}
 use Rattle.lists.proofs.Answer.{number-fits, number-short, room-fits, room-short}
-use Rattle.numbers.specs.Word.{wordOf}
+use Rattle.patterns.specs.Word.{wordOf}
 use Rattle.search.specs.declared.arrival_times.Arrivals.the-variants.{Listed}
 use Rattle.search.specs.Words.{wordsOf, listingOutcome}
 

@@ -1,6 +1,6 @@
 // Arrival times: how many there are, by how many sweeps, then a word each (docs/RULES.md, 12.18).
 use lists::words;
-use numbers::word;
+use patterns::word;
 use search::arrival_times::Arrivals;
 ghost use mathlib.Core.Path.{_≡_};
 ghost use mathlib.Core.List.{_++_};

@@ -3,23 +3,22 @@
 use Prim.Native.Nat.{ℕ}
 use mathlib.Core.Bool.{Bool, cond, _&&_}
 use mathlib.Core.List.{List, [], _∷_, _++_}
-use lib.Dec.{leb, eqb}
 use lib.ListN.{length}
 use Rattle.lists.specs.Outcome.{Outcome, Gives, Refuses}
 use Rattle.lists.specs.Rows.{wordsIn}
-use Rattle.numbers.specs.Word.{wordOf}
+use Rattle.patterns.specs.Word.{wordOf}
 use Rattle.numbers.specs.declared.time.TimePoint.{TimePoint}
-use Rattle.shapes.specs.Domain.{isTime}
+use Rattle.limits.specs.Domain.{isTime}
 use Rattle.shapes.specs.Leg.{isBrief}
-use Rattle.shapes.specs.declared.domain.Examined.{Examined}
-use Rattle.shapes.specs.declared.domain.Examined.the-variants as X
+use Rattle.limits.specs.declared.domain.Examined.{Examined}
+use Rattle.limits.specs.declared.domain.Examined.the-variants as X
 use Rattle.shapes.specs.declared.profile.CircularProfile.{CircularProfile}
 use Rattle.shapes.specs.declared.waypoint.Leg.{Leg}
 use Rattle.obstacles.specs.Lent.{Lent, obstaclesOf}
 use Rattle.obstacles.specs.Obstacle.{Obstacle}
 use Rattle.obstacles.specs.Examined.{agentExamined}
 use Rattle.ranking.specs.Hints.{held}
-use Rattle.ranking.specs.Lent.{lentHints}
+use Rattle.lending.specs.Lent.{lentHints}
 use Rattle.ranking.specs.declared.order.RankedHint.{RankedHint}
 use Rattle.ranking.specs.declared.ranked_hints.RankedHints.{RankedHints}
 use Rattle.hints.specs.Contour.{scaleOf}
@@ -28,28 +27,8 @@ use Rattle.hints.specs.declared.contour.Scaling.{Scaling}
 use Rattle.hints.specs.declared.contour.Scaling.the-variants as L
 use Rattle.ways.specs.declared.trip.Trip.{Trip}
 use Rattle.actions.specs.Action.{actionRows}
+use Rattle.asking.specs.Beside.{isBudget, withNumbers, withLent}
 use Rattle.arrival_paths.specs.Path.{Sought, Path, Missing, Refused, pathFor}
-
--- ---- Examining more than the agent and the table.
-
--- At most 65,535 pops (RULES 3.10).
-unfoldable pub isBudget : ℕ → Bool
-isBudget budget = leb budget 65535
-
--- A ground for 1: it comes after any for 2, and before 3 (RULES 5.1).
-abbrev pub numbered : Examined → Examined
-numbered X.Fine = X.Refused 1
-numbered (X.Refused n) = cond (eqb n 2) (X.Refused 2) (X.Refused 1)
-
--- What is found where numbers beside those examined must be in the table as well.
-unfoldable pub withNumbers : Bool → Examined → Examined
-withNumbers ok e = cond ok e (numbered e)
-
--- What is found with hints that are refused by this number, 0 for none: 2 for their count, else 1 (RULES 11.9, 11.10).
-unfoldable pub withLent : ℕ → Examined → Examined
-withLent refused e = cond (eqb refused 0) e (cond (eqb refused 2) (X.Refused 2) (numbered e))
-
--- ---- One path alone.
 
 -- The trip at the speed along the agent's line (RULES 13.2).
 abbrev pub tripOf : CircularProfile → Leg → Scale → Trip

@@ -1,4 +1,2 @@
 // One path for one arrival time, and the call for it.
 pub mod arrival_path;
-pub mod asking;
-pub mod calls;

@@ -1,10 +1,10 @@
 // The call for conflict: it examines its own input, then does the work (docs/RULES.md, 5.1 to 5.4 and 5.11).
 use crate::conflict;
 use crate::conflict::Verdict;
+use limits::domain;
+use limits::domain::Examined;
 use proximity::calls;
 use shapes::bounding_box::BoundingBox;
-use shapes::domain;
-use shapes::domain::Examined;
 use shapes::profile::CircularProfile;
 use shapes::waypoint::Leg;
 ghost use mathlib.Core.Path.{_≡_};

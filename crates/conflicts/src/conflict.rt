@@ -1,12 +1,12 @@
 // Whether two legs are in conflict: `have_conflict` of the Rust (docs/RULES.md, 9.1 to 9.6).
+use motions::quadratic;
+use motions::quadratic::Meeting;
+use motions::quadratic::Quadratic;
 use numbers::time::Span;
 use numbers::time::TimePoint;
 use proximity::detect;
 use proximity::detect::Entry;
 use proximity::detect::Proximity;
-use proximity::quadratic;
-use proximity::quadratic::Meeting;
-use proximity::quadratic::Quadratic;
 use shapes::bounding_box::BoundingBox;
 use shapes::waypoint::Leg;
 ghost use mathlib.Core.Path.{_≡_};

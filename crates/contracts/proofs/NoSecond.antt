@@ -23,6 +23,8 @@ no-second = record {
   told = λ answer lent p q. (one-equation (p .counts) (q .counts), one-equation (p .times) (q .times));
   put = λ answer lent row p q. only-put answer p q;
   put-path = λ answer lent row p q. only-path answer p q;
+  settled-both = λ heads actions lent lentActions p q.
+      (one-equation (p .number) (q .number), (one-equation (p .room) (q .room), one-equation (p .action-room) (q .action-room)));
   plan-handed = λ plan lent lentActions p q.
       (one-equation (p .number) (q .number), (one-equation (p .room) (q .room), one-equation (p .actions) (q .actions)));
   tells = λ text lent p q. (one-told p q, one-left p q);

@@ -20,7 +20,7 @@ use Rattle.arrival_paths.specs.Path.{Sought}
 use Rattle.arrival_paths.specs.Laid.{PutPath}
 use Rattle.arrival_paths.specs.declared.arrival_path.Found.{Found}
 use Rattle.plans.specs.Plan.{Plan}
-use Rattle.plans.specs.Laid.{PlanHanded}
+use Rattle.plans.specs.Laid.{SettledBoth, PlanHanded}
 use Rattle.texts.specs.Room as R
 use Rattle.texts.specs.Room.{Tells}
 use Rattle.texts.specs.declared.room.Told as T
@@ -50,6 +50,11 @@ pub record NoSecond : Type 1 where
   -- The actions of a path that is sought, from a row on (RULES 13.5 to 13.26).
   pub put-path : (answer : Sought) (lent : List ℕ) (row : ℕ) {left left' : List ℕ} {r r' : Found} →
       PutPath answer lent left row r → PutPath answer lent left' row r' → (r ≡ r') × (left ≡ left')
+  -- Rows that stand in two rooms already, handed over.
+  pub settled-both : (heads actions : ℕ) (lent lentActions : List ℕ) {left left' leftActions leftActions' : List ℕ} {r r' : ℕ} →
+      SettledBoth heads actions lent left lentActions leftActions r →
+      SettledBoth heads actions lent left' lentActions leftActions' r' →
+      (r ≡ r') × ((left ≡ left') × (leftActions ≡ leftActions'))
   -- A whole plan, in two rooms.
   pub plan-handed : (plan : Plan) (lent lentActions : List ℕ) {left left' leftActions leftActions' : List ℕ} {r r' : ℕ} →
       PlanHanded plan lent left lentActions leftActions r → PlanHanded plan lent left' lentActions leftActions' r' →

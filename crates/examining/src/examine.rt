@@ -1,8 +1,8 @@
 // What is wrong with a table: its lists do not fit one another or break a count or the order of times (2), or one of its numbers
 // is outside the table of the domain (1) (docs/RULES.md, 3.1 to 3.6 and 5.1).
+use limits::domain;
+use limits::domain::Examined;
 use obstacles::table;
-use shapes::domain;
-use shapes::domain::Examined;
 use shapes::profile::CircularProfile;
 use shapes::waypoint::Leg;
 ghost use mathlib.Core.Path.{_≡_};
@@ -11,7 +11,7 @@ ghost use mathlib.Core.List.{List};
 ghost use lib.Ieee.{Float};
 ghost use Rattle.lists.specs.Listed.{listedTo, every};
 ghost use Prim.Native.Nat.{_-_};
-ghost use Rattle.shapes.specs.Domain.{isWaypoint, isProfile, isLimit};
+ghost use Rattle.limits.specs.Domain.{isWaypoint, isProfile, isLimit};
 ghost use Rattle.obstacles.specs.Lent.{lentOf, waypointIn, profileIn, limitIn, obstaclesOf};
 ghost use Rattle.obstacles.specs.Examined.{tiles, isLaid, isTrajectory, isFew, isShaped, areAllowed, agentExamined};
 

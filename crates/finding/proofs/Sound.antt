@@ -13,19 +13,19 @@ use Rattle.floats.proofs.Tests.{failed, is-true}
 use Rattle.numbers.proofs.Integers.{below-or-at-most, at-most-trans, difference-mono}
 use Rattle.numbers.proofs.Reach.{both}
 use Rattle.shapes.specs.Box.{overlap}
-use Rattle.shapes.specs.Domain.{isLimit, isLeg, isProfile}
+use Rattle.limits.specs.Domain.{isLimit, isLeg, isProfile}
 use Rattle.shapes.specs.Leg.{isRising, isBrief}
 use Rattle.shapes.specs.Vector.{dotOf}
 use Rattle.shapes.specs.declared.bounding_box.BoundingBox.{BoundingBox}
 use Rattle.shapes.specs.declared.profile.CircularProfile.{CircularProfile}
 use Rattle.shapes.specs.declared.waypoint.Leg.{Leg}
-use Rattle.shapes.proofs.Limits.{leg-start, leg-end, waypoint-time, critical-squared-limit}
+use Rattle.limits.proofs.Limits.{leg-start, leg-end, waypoint-time, critical-squared-limit}
 use Rattle.proximity.proofs.Arrivals.{times-given}
-use Rattle.lines.specs.Course.{courseOf}
-use Rattle.lines.specs.declared.course.Course.{Course}
-use Rattle.lines.specs.declared.course.Run.{Run}
-use Rattle.lines.specs.declared.course.Heading.{Heading}
-use Rattle.lines.specs.declared.course.Heading.the-variants as H
+use Rattle.courses.specs.Course.{courseOf}
+use Rattle.courses.specs.declared.course.Course.{Course}
+use Rattle.courses.specs.declared.course.Run.{Run}
+use Rattle.courses.specs.declared.course.Heading.{Heading}
+use Rattle.courses.specs.declared.course.Heading.the-variants as H
 use Rattle.lines.proofs.OnDomain.{Steady, Charted, Headed, leg-runs, course-given}
 use Rattle.obstacles.specs.Obstacle.{Obstacle, legsOf}
 use Rattle.obstacles.proofs.Accepted.{isDriven, isFit}
@@ -37,7 +37,7 @@ use Rattle.waiting.specs.Crossing.{crossingWait}
 use Rattle.waiting.specs.Standing.{standingWait}
 use Rattle.waiting.specs.Oncoming.{oncomingWait}
 use Rattle.waiting.proofs.OnDomain.{Waited, NeverRefused, crossing-waited, standing-waited, oncoming-waited}
-use Rattle.following.specs.declared.chase.Gaps.{Gaps}
+use Rattle.chasing.specs.declared.chase.Gaps.{Gaps}
 use Rattle.following.proofs.Sound.{following-sound}
 use Rattle.finding.specs.LegHints.{partOf, withPart, withLeg}
 use Rattle.finding.specs.Walk.{gapsOf, hintBox, nearLeg, withLegs, withObstacle, withObstacles, hintsOf}

@@ -15,7 +15,7 @@ use Rattle.shapes.specs.declared.bounding_box.BoundingBox.{BoundingBox}
 use Rattle.shapes.specs.declared.profile.CircularProfile.{CircularProfile}
 use Rattle.shapes.specs.declared.waypoint.Leg.{Leg}
 use Rattle.shapes.specs.declared.waypoint.Waypoint.{Waypoint}
-use Rattle.lines.specs.declared.course.Course.{Course}
+use Rattle.courses.specs.declared.course.Course.{Course}
 use Rattle.obstacles.specs.Obstacle.{Obstacle, legsOf}
 use Rattle.obstacles.specs.Lent.{Lent, startIn, profileIn, waypointIn, legIn, waypointsOf, obstacleIn}
 use Rattle.obstacles.specs.Boxes.{lastIn}
@@ -24,7 +24,7 @@ use Rattle.obstacles.proofs.Reading.{waypoints-read}
 use Rattle.waits.specs.Hints.{after}
 use Rattle.waits.specs.declared.wait_hints.WaitHints.{WaitHints}
 use Rattle.waits.proofs.Storing.{going, ended, after-going, after-refused}
-use Rattle.following.specs.declared.chase.Gaps.{Gaps}
+use Rattle.chasing.specs.declared.chase.Gaps.{Gaps}
 use Rattle.finding.specs.Walk.{gapsOf, nearLeg, withLegs, withObstacle, withObstacles}
 
 -- ---- A turn, by what was found in it, as the code tests that.

@@ -7,15 +7,15 @@ use lib.Ieee
 use lib.Ieee.{Float, binary64}
 use Rattle.floats.specs.Size.{nought}
 use Rattle.shapes.specs.Vector.{dotOf}
-use Rattle.lines.specs.declared.course.Course.{Course}
-use Rattle.lines.specs.declared.course.Run.{Run}
+use Rattle.courses.specs.declared.course.Course.{Course}
+use Rattle.courses.specs.declared.course.Run.{Run}
 use Rattle.waits.specs.Hints.{withWait, after}
 use Rattle.waits.specs.declared.wait_hints.WaitHints.{WaitHints}
 use Rattle.waiting.specs.Crossing.{crossingWait}
 use Rattle.waiting.specs.Standing.{standingWait}
 use Rattle.waiting.specs.Oncoming.{oncomingWait}
 use Rattle.following.specs.Follow.{following}
-use Rattle.following.specs.declared.chase.Gaps.{Gaps}
+use Rattle.chasing.specs.declared.chase.Gaps.{Gaps}
 use Rattle.finding.specs.declared.leg_hints.Part.{Part}
 use Rattle.finding.specs.declared.leg_hints.Part.the-variants.{Oncoming, Outpacing, Following, Standing}
 

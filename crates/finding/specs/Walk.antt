@@ -10,16 +10,16 @@ use Rattle.shapes.specs.Distance.{criticalDistance, criticalDistanceSquared, fo
 use Rattle.shapes.specs.declared.bounding_box.BoundingBox.{BoundingBox}
 use Rattle.shapes.specs.declared.profile.CircularProfile.{CircularProfile}
 use Rattle.shapes.specs.declared.waypoint.Leg.{Leg}
-use Rattle.lines.specs.Course.{runOf, courseOf}
-use Rattle.lines.specs.declared.course.Course.{Course}
-use Rattle.lines.specs.declared.course.Ran.{Ran}
-use Rattle.lines.specs.declared.course.Ran.the-variants as N
-use Rattle.lines.specs.declared.course.Heading.{Heading}
-use Rattle.lines.specs.declared.course.Heading.the-variants as H
+use Rattle.courses.specs.Course.{runOf, courseOf}
+use Rattle.courses.specs.declared.course.Course.{Course}
+use Rattle.courses.specs.declared.course.Ran.{Ran}
+use Rattle.courses.specs.declared.course.Ran.the-variants as N
+use Rattle.courses.specs.declared.course.Heading.{Heading}
+use Rattle.courses.specs.declared.course.Heading.the-variants as H
 use Rattle.obstacles.specs.Obstacle.{Obstacle, legsOf}
 use Rattle.waits.specs.Hints.{noHints, refusedBy, after}
 use Rattle.waits.specs.declared.wait_hints.WaitHints.{WaitHints}
-use Rattle.following.specs.declared.chase.Gaps.{Gaps}
+use Rattle.chasing.specs.declared.chase.Gaps.{Gaps}
 use Rattle.finding.specs.LegHints.{withLeg}
 
 -- The distances that the agent keeps from an obstacle: D, D * D and F (RULES 10.6, 10.18).

@@ -1,9 +1,9 @@
 // The hints for one leg of an obstacle: the crossing hint, then those of the part that its direction chooses
 // (docs/RULES.md, 10.8, 10.14 and 10.15).
-use following::chase::Gaps;
+use chasing::chase::Gaps;
+use courses::course::Course;
+use courses::course::Run;
 use following::follow;
-use lines::course::Course;
-use lines::course::Run;
 use waiting::crossing;
 use waiting::oncoming;
 use waiting::standing;

@@ -1,11 +1,11 @@
 // The walk over all obstacles and their legs: `compute_wait_hints` of the Rust (docs/RULES.md, 10.1 to 10.7).
 use crate::leg_hints;
 use boxing::boxes;
-use following::chase::Gaps;
-use lines::course;
-use lines::course::Course;
-use lines::course::Heading;
-use lines::course::Ran;
+use chasing::chase::Gaps;
+use courses::course;
+use courses::course::Course;
+use courses::course::Heading;
+use courses::course::Ran;
 use obstacles::table;
 use shapes::bounding_box::BoundingBox;
 use shapes::profile::CircularProfile;

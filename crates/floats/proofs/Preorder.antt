@@ -59,12 +59,6 @@ top-only (inf true) h = absurd h
 top-only (inf false) h = refl
 top-only (fin s m e) h = absurd h
 
-pub between-finite : (x y z : Float) → Finite x → Finite y → x ≼ z → z ≼ y → Finite z
-between-finite x y nan X Y h k = absurd (unfold le in k)
-between-finite x y (inf true) X Y h k = subst (λ (w : Float). Finite w) (bottom-only x h) X
-between-finite x y (inf false) X Y h k = subst (λ (w : Float). Finite w) (top-only y k) Y
-between-finite x y (fin s m e) X Y h k = tt
-
 -- ---- The preorder.
 
 pub le-refl : (x : Float) → Known x → x ≼ x

@@ -14,10 +14,6 @@ passed e = subst T (sym e) tt
 pub failed : {b : Bool} → b ≡ false → T (not b)
 failed e = subst (λ (b : Bool). T (not b)) (sym e) tt
 
-pub stayed : (b : Bool) → not b ≡ false → T b
-stayed true e = tt
-stayed false e = absurd (true≢false e)
-
 -- What a call found, past `if !f(x) { return .. }`: the test fails on the way out, and holds on the way on.
 pub found-false : {found test : Bool} → found ≡ test → not found ≡ true → test ≡ false
 found-false {found} e taken = sym e ∙ not-true found taken

@@ -10,22 +10,22 @@ use Rattle.numbers.specs.declared.time.Instant.{Instant}
 use Rattle.numbers.specs.declared.time.Instant.the-variants as I
 use Rattle.shapes.specs.Vector.{dotOf}
 use Rattle.shapes.specs.declared.vector.Vector.{Vector}
-use Rattle.lines.specs.declared.course.Course.{Course}
-use Rattle.lines.specs.declared.course.Run.{Run}
+use Rattle.courses.specs.declared.course.Course.{Course}
+use Rattle.courses.specs.declared.course.Run.{Run}
 use Rattle.waits.specs.Hints.{withHint}
 use Rattle.waits.specs.declared.wait_hints.WaitHints.{WaitHints}
 use Rattle.waits.proofs.Sound.{Sound, may-be-strayed, may-be-full, refused-sound, hint-sound, either-sound, after-sound}
-use Rattle.following.specs.Chase.{firstSeen, chaseOf, openingOf}
-use Rattle.following.specs.Rounds.{roundOf, afterRound, roundsIn}
+use Rattle.chasing.specs.Chase.{firstSeen, chaseOf, openingOf}
+use Rattle.sawtooth.specs.Rounds.{roundOf, afterRound, roundsIn}
 use Rattle.following.specs.Follow.{withStop, opened, followed, following}
-use Rattle.following.specs.declared.chase.Gaps.{Gaps}
-use Rattle.following.specs.declared.chase.Chase.{Chase}
-use Rattle.following.specs.declared.chase.Sight.{Sight}
-use Rattle.following.specs.declared.chase.Sight.the-variants as G
-use Rattle.following.specs.declared.chase.Opening.{Opening}
-use Rattle.following.specs.declared.chase.Opening.the-variants.{Waits, Goes}
-use Rattle.following.specs.declared.rounds.Round.{Round}
-use Rattle.following.specs.declared.rounds.Round.the-variants.{Next, Last, Strayed}
+use Rattle.chasing.specs.declared.chase.Gaps.{Gaps}
+use Rattle.chasing.specs.declared.chase.Chase.{Chase}
+use Rattle.chasing.specs.declared.chase.Sight.{Sight}
+use Rattle.chasing.specs.declared.chase.Sight.the-variants as G
+use Rattle.chasing.specs.declared.chase.Opening.{Opening}
+use Rattle.chasing.specs.declared.chase.Opening.the-variants.{Waits, Goes}
+use Rattle.sawtooth.specs.declared.rounds.Round.{Round}
+use Rattle.sawtooth.specs.declared.rounds.Round.the-variants.{Next, Last, Strayed}
 
 -- ---- The rounds.
 

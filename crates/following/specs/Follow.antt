@@ -10,18 +10,18 @@ use Rattle.numbers.specs.declared.time.Instant.{Instant}
 use Rattle.numbers.specs.declared.time.Instant.the-variants as I
 use Rattle.shapes.specs.Vector.{dotOf}
 use Rattle.shapes.specs.declared.vector.Vector.{Vector}
-use Rattle.lines.specs.declared.course.Course.{Course}
-use Rattle.lines.specs.declared.course.Run.{Run}
+use Rattle.courses.specs.declared.course.Course.{Course}
+use Rattle.courses.specs.declared.course.Run.{Run}
 use Rattle.waits.specs.Hints.{refusedBy, withHint, after}
 use Rattle.waits.specs.declared.wait_hints.WaitHints.{WaitHints}
-use Rattle.following.specs.Chase.{firstSeen, chaseOf, openingOf}
-use Rattle.following.specs.Rounds.{roundsFrom}
-use Rattle.following.specs.declared.chase.Gaps.{Gaps}
-use Rattle.following.specs.declared.chase.Chase.{Chase}
-use Rattle.following.specs.declared.chase.Sight.{Sight}
-use Rattle.following.specs.declared.chase.Sight.the-variants as G
-use Rattle.following.specs.declared.chase.Opening.{Opening}
-use Rattle.following.specs.declared.chase.Opening.the-variants.{Waits, Goes}
+use Rattle.chasing.specs.Chase.{firstSeen, chaseOf, openingOf}
+use Rattle.sawtooth.specs.Rounds.{roundsFrom}
+use Rattle.chasing.specs.declared.chase.Gaps.{Gaps}
+use Rattle.chasing.specs.declared.chase.Chase.{Chase}
+use Rattle.chasing.specs.declared.chase.Sight.{Sight}
+use Rattle.chasing.specs.declared.chase.Sight.the-variants as G
+use Rattle.chasing.specs.declared.chase.Opening.{Opening}
+use Rattle.chasing.specs.declared.chase.Opening.the-variants.{Waits, Goes}
 
 -- A hint at a place until the instant t, in seconds (RULES 10.19, 10.20).
 unfoldable pub withStop : WaitHints → Vector → Float → ℕ → WaitHints

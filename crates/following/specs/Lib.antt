@@ -1,3 +1,1 @@
-pub mod Chase
-pub mod Rounds
 pub mod Follow

@@ -1,14 +1,14 @@
 // Following as a whole (docs/RULES.md, 10.16 to 10.23).
-use crate::chase;
-use crate::chase::Chase;
-use crate::chase::Gaps;
-use crate::chase::Opening;
-use crate::chase::Sight;
-use crate::rounds;
-use lines::course::Course;
-use lines::course::Run;
+use chasing::chase;
+use chasing::chase::Chase;
+use chasing::chase::Gaps;
+use chasing::chase::Opening;
+use chasing::chase::Sight;
+use courses::course::Course;
+use courses::course::Run;
 use numbers::time::Instant;
 use numbers::time::TimePoint;
+use sawtooth::rounds;
 use shapes::vector::Vector;
 use waits::hint::WaitHint;
 use waits::wait_hints::WaitHints;

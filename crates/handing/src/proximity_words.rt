@@ -2,7 +2,7 @@
 use conflicts::conflict::Verdict;
 use lines::stationary::Stay;
 use lists::words;
-use numbers::word;
+use patterns::word;
 use proximity::calls::Whereabouts;
 use proximity::detect::Proximity;
 ghost use Rattle.lists.specs.Outcome.{Handed};

@@ -1,12 +1,12 @@
 // Distances and boxes.
 use examining::calls::Hull;
+use limits::calls::Boxed;
+use limits::calls::Distance;
+use limits::calls::Overlap;
 use lists::words;
-use numbers::word;
-use shapes::calls::Boxed;
-use shapes::calls::Distance;
-use shapes::calls::Overlap;
+use patterns::word;
 ghost use Rattle.lists.specs.Outcome.{Handed};
-ghost use Rattle.shapes.specs.Asked.{distanceOutcome, boxOutcome, overlapOutcome};
+ghost use Rattle.limits.specs.Asked.{distanceOutcome, boxOutcome, overlapOutcome};
 ghost use Rattle.examining.specs.Asked.{hullOutcome};
 
 pub fn give_distance(d: Distance, out: &mut [u64]) -> u64

@@ -8,7 +8,7 @@ use native.Mathlib.Numerals.{add-one}
 use lib.ListN.{length, take, drop, set, getD, length-append}
 use lib.Seq.{take-suc, take-at, take-suc-set, length-take-le, sets-eq}
 use Rattle.ranking.specs.declared.order.RankedHint.{RankedHint}
-use Rattle.ranking.specs.Lent.{hintWords, allWords}
+use Rattle.lending.specs.Lent.{hintWords, allWords}
 
 length-hint-words : (h : RankedHint) → length (hintWords h) ≡ 6
 unfolding hintWords

@@ -1,6 +1,6 @@
 // Ranked hints: their count, then six words each (docs/RULES.md, 11.8).
 use lists::words;
-use numbers::word;
+use patterns::word;
 use ranking::order::RankedHint;
 use ranking::ranked_hints::RankedHints;
 ghost use mathlib.Core.Path.{_≡_};
@@ -8,7 +8,7 @@ ghost use mathlib.Core.List.{_++_};
 ghost use Prim.Native.Nat.{_≤_, _+_};
 ghost use lib.ListN.{length, take, drop};
 ghost use Rattle.lists.specs.Outcome.{Handed};
-ghost use Rattle.ranking.specs.Lent.{hintWords, hintsOutcome};
+ghost use Rattle.lending.specs.Lent.{hintWords, hintsOutcome};
 
 // Puts the words of a hint from `at` on.
 fn put_hint(room: &mut [u64], at: usize, h: RankedHint)

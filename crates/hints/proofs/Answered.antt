@@ -11,7 +11,7 @@ use lib.ListN.{length, length-map}
 use lib.Seq.{length-take-le}
 use Rattle.shapes.specs.Box.{boxOfLeg}
 use Rattle.shapes.specs.Leg.{isRising, isBrief}
-use Rattle.shapes.specs.declared.domain.Examined.the-variants as X
+use Rattle.limits.specs.declared.domain.Examined.the-variants as X
 use Rattle.shapes.specs.declared.bounding_box.BoundingBox.{BoundingBox}
 use Rattle.shapes.specs.declared.profile.CircularProfile.{CircularProfile}
 use Rattle.shapes.specs.declared.waypoint.Leg.{Leg}

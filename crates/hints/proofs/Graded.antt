@@ -6,7 +6,7 @@ use mathlib.Core.Bool.{true}
 use mathlib.Core.List.{List, [], _∷_, map, List·Memᴰ, List·Memᴰ·head, List·Memᴰ·tail}
 use Rattle.lists.specs.Listed.{every}
 use Rattle.numbers.proofs.Reach.{both}
-use Rattle.shapes.specs.Domain.{isLeg}
+use Rattle.limits.specs.Domain.{isLeg}
 use Rattle.shapes.specs.declared.waypoint.Leg.{Leg}
 use Rattle.waits.specs.declared.hint.WaitHint.{WaitHint}
 use Rattle.waits.proofs.Sound.{hasPlace}

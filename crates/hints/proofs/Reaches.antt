@@ -22,19 +22,19 @@ use Rattle.numbers.proofs.Answers.{span-of-seconds-in-reach}
 use Rattle.numbers.proofs.Spans.{spanFrom}
 use Rattle.root.proofs.Size.{Fine}
 use Rattle.shapes.specs.Leg.{placeOf}
-use Rattle.shapes.specs.Domain.{isWaypoint, isLeg}
+use Rattle.limits.specs.Domain.{isWaypoint, isLeg}
 use Rattle.shapes.specs.Vector.{difference, divided, dotOf}
 use Rattle.shapes.specs.declared.vector.Vector.{Vector}
 use Rattle.shapes.specs.declared.waypoint.Leg.{Leg}
 use Rattle.shapes.specs.declared.waypoint.Waypoint.{Waypoint}
-use Rattle.shapes.proofs.Limits.{tenThousand, leg-start, leg-end, waypoint-time, waypoint-x, waypoint-y, coordinate-at-most}
-use Rattle.shapes.proofs.Vectors.{Spans, spans-le, spans-difference, spans-divided, within-dot-of}
+use Rattle.limits.proofs.Limits.{tenThousand, leg-start, leg-end, waypoint-time, waypoint-x, waypoint-y, coordinate-at-most}
+use Rattle.limits.proofs.Vectors.{Spans, spans-le, spans-difference, spans-divided, within-dot-of}
 use Rattle.proximity.proofs.Arrivals.{times-given}
 use Rattle.lines.proofs.OnDomain.{Normed, norm-given, steepest}
 use Rattle.waits.specs.Hint.{isWithinMillion, isPlaced}
 use Rattle.waits.specs.declared.hint.WaitHint.{WaitHint}
 use Rattle.ranking.specs.Ranked.{isKnown}
-use Rattle.ranking.specs.Lent.{isFinite}
+use Rattle.lending.specs.Lent.{isFinite}
 use Rattle.ranking.specs.declared.order.RankedHint.{RankedHint}
 use Rattle.hints.specs.Contour.{spanning, scaleOf, contourOf, gradeOf}
 use Rattle.hints.specs.declared.contour.Scale.{Scale}

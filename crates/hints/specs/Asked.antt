@@ -3,8 +3,8 @@
 use mathlib.Core.Bool.{cond}
 use Rattle.shapes.specs.Box.{boxOfLeg}
 use Rattle.shapes.specs.Leg.{isBrief}
-use Rattle.shapes.specs.declared.domain.Examined.{Examined}
-use Rattle.shapes.specs.declared.domain.Examined.the-variants as X
+use Rattle.limits.specs.declared.domain.Examined.{Examined}
+use Rattle.limits.specs.declared.domain.Examined.the-variants as X
 use Rattle.shapes.specs.declared.profile.CircularProfile.{CircularProfile}
 use Rattle.shapes.specs.declared.waypoint.Leg.{Leg}
 use Rattle.obstacles.specs.Lent.{Lent, obstaclesOf}

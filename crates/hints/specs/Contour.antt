@@ -17,7 +17,7 @@ use Rattle.shapes.specs.Vector.{difference, divided, dotOf}
 use Rattle.shapes.specs.declared.bounding_box.BoundingBox.{BoundingBox}
 use Rattle.shapes.specs.declared.profile.CircularProfile.{CircularProfile}
 use Rattle.shapes.specs.declared.waypoint.Leg.{Leg}
-use Rattle.lines.specs.Norm.{normOf}
+use Rattle.courses.specs.Norm.{normOf}
 use Rattle.obstacles.specs.Obstacle.{Obstacle}
 use Rattle.waits.specs.Hints as W
 use Rattle.waits.specs.declared.hint.WaitHint.{WaitHint}

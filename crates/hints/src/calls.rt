@@ -2,9 +2,9 @@
 use crate::path_hints;
 use boxing::boxes;
 use examining::examine;
+use limits::domain::Examined;
 use ranking::ranked_hints::RankedHints;
 use shapes::bounding_box::BoundingBox;
-use shapes::domain::Examined;
 use shapes::profile::CircularProfile;
 use shapes::waypoint::Leg;
 ghost use mathlib.Core.Path.{_≡_};

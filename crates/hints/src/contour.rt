@@ -1,5 +1,5 @@
 // The contour and the reach of a hint (docs/RULES.md, 11.1 to 11.4).
-use lines::norm;
+use courses::norm;
 use numbers::time::Duration;
 use numbers::time::Span;
 use numbers::time::TimePoint;

@@ -31,29 +31,29 @@ use Rattle.root.proofs.Given.{root-given}
 use Rattle.root.proofs.Meets.{meets}
 use Rattle.root.proofs.Size.{Fine, root-fine}
 use Rattle.shapes.specs.Leg.{placeOf, isRising}
-use Rattle.shapes.specs.Domain.{isTime, isPlace, isLimit, isWaypoint, isLeg}
+use Rattle.limits.specs.Domain.{isTime, isPlace, isLimit, isWaypoint, isLeg}
 use Rattle.shapes.specs.Vector.{difference, divided, dotOf}
 use Rattle.shapes.specs.declared.vector.Vector.{Vector}
 use Rattle.shapes.specs.declared.waypoint.Leg.{Leg}
 use Rattle.shapes.specs.declared.waypoint.Waypoint.{Waypoint}
-use Rattle.shapes.proofs.Limits as L
-use Rattle.shapes.proofs.Vectors as P
-use Rattle.shapes.proofs.Vectors.{Spans, Swift}
+use Rattle.limits.proofs.Limits as L
+use Rattle.limits.proofs.Vectors as P
+use Rattle.limits.proofs.Vectors.{Spans, Swift}
 use Rattle.proximity.proofs.Arrivals.{times-given}
 use Rattle.lines.specs.Stationary.{stationaryProximity}
-use Rattle.lines.specs.Norm.{normOf, directionOf}
+use Rattle.courses.specs.Norm.{normOf, directionOf}
 use Rattle.lines.specs.NearLine.{acrossQuadratic, outlasting, endedBy, pastEnd, spellOf, nearLine}
-use Rattle.lines.specs.Course.{runOf, courseOf}
+use Rattle.courses.specs.Course.{runOf, courseOf}
 use Rattle.lines.specs.Asked.{isStay}
 use Rattle.lines.specs.declared.stationary.Stay.{Stay}
 use Rattle.lines.specs.declared.stationary.Stay.the-variants as S
-use Rattle.lines.specs.declared.norm.Direction.{Direction}
-use Rattle.lines.specs.declared.norm.Direction.the-variants as D
-use Rattle.lines.specs.declared.course.Run.{Run}
-use Rattle.lines.specs.declared.course.Ran.the-variants as N
-use Rattle.lines.specs.declared.course.Course.{Course}
-use Rattle.lines.specs.declared.course.Heading.{Heading}
-use Rattle.lines.specs.declared.course.Heading.the-variants as H
+use Rattle.courses.specs.declared.norm.Direction.{Direction}
+use Rattle.courses.specs.declared.norm.Direction.the-variants as D
+use Rattle.courses.specs.declared.course.Run.{Run}
+use Rattle.courses.specs.declared.course.Ran.the-variants as N
+use Rattle.courses.specs.declared.course.Course.{Course}
+use Rattle.courses.specs.declared.course.Heading.{Heading}
+use Rattle.courses.specs.declared.course.Heading.the-variants as H
 use Rattle.lines.proofs.StationaryGiven.{Ordered, stationary-ordered}
 
 -- ---- A leg in motion.

@@ -14,12 +14,12 @@ use Rattle.floats.proofs.Meeting.{within-dot, two-within, four-within, finite-r
 use Rattle.numbers.proofs.Reach.{both}
 use Rattle.root.specs.Root.{rootOf}
 use Rattle.root.proofs.Given.{root-given}
-use Rattle.shapes.specs.Domain.{isCoordinate, isPlace, isSpeed, isLimit}
+use Rattle.limits.specs.Domain.{isCoordinate, isPlace, isSpeed, isLimit}
 use Rattle.shapes.specs.declared.vector.Vector.{Vector}
-use Rattle.shapes.proofs.Limits.{swiftest, coordinate-within, speed-within, limit-within}
+use Rattle.limits.proofs.Limits.{swiftest, coordinate-within, speed-within, limit-within}
 use Rattle.lines.specs.Stationary.{stationaryQuadratic, rooted, stationaryProximity}
 use Rattle.lines.specs.Asked.{isStay, askedStationary}
-use Rattle.proximity.specs.declared.quadratic.Quadratic.{Quadratic}
+use Rattle.motions.specs.declared.quadratic.Quadratic.{Quadratic}
 use Rattle.lines.specs.declared.stationary.Stay.{Stay}
 use Rattle.lines.specs.declared.stationary.Stay.the-variants.{Between, Nothing, Refused}
 use Rattle.proximity.proofs.Roots.{root-not-below}

@@ -2,7 +2,7 @@
 -- Assumes nothing.
 use mathlib.Core.Bool.{Bool, cond, _&&_}
 use lib.Ieee.{Float}
-use Rattle.shapes.specs.Domain.{isPlace, isSpeed, isLimit}
+use Rattle.limits.specs.Domain.{isPlace, isSpeed, isLimit}
 use Rattle.shapes.specs.declared.vector.Vector.{Vector}
 use Rattle.lines.specs.Stationary.{stationaryProximity}
 use Rattle.lines.specs.declared.stationary.Stay.{Stay}

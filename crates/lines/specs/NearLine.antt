@@ -10,7 +10,7 @@ use Rattle.floats.specs.Domain.{still}
 use Rattle.root.specs.Root.{rootOf}
 use Rattle.shapes.specs.Vector.{difference, scaled, divided, dotOf}
 use Rattle.shapes.specs.declared.vector.Vector.{Vector}
-use Rattle.proximity.specs.declared.quadratic.Quadratic.{Quadratic}
+use Rattle.motions.specs.declared.quadratic.Quadratic.{Quadratic}
 use Rattle.lines.specs.Stationary.{rooted, stationaryProximity}
 use Rattle.lines.specs.declared.stationary.Stay.{Stay}
 use Rattle.lines.specs.declared.stationary.Stay.the-variants.{Between, Nothing, Refused}

@@ -1,7 +1,7 @@
 // The call for stationary proximity: it examines its own input, then does the work (docs/RULES.md, 5.3 and 5.11).
 use crate::stationary;
 use crate::stationary::Stay;
-use shapes::domain;
+use limits::domain;
 use shapes::vector::Vector;
 ghost use mathlib.Core.Path.{_≡_};
 ghost use Rattle.lines.specs.Asked.{isStay, askedStationary};

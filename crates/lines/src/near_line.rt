@@ -2,7 +2,7 @@
 use crate::stationary;
 use crate::stationary::Stay;
 use floats::comparison;
-use proximity::quadratic::Quadratic;
+use motions::quadratic::Quadratic;
 use root::nearest;
 use root::nearest::Root;
 use shapes::vector::Vector;

@@ -1,5 +1,5 @@
 // When something in motion is within a distance of a place: `compute_stationary_proximity` of the Rust (docs/RULES.md, 10.37).
-use proximity::quadratic::Quadratic;
+use motions::quadratic::Quadratic;
 use root::nearest;
 use root::nearest::Root;
 use shapes::vector::Vector;

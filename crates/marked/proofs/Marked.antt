@@ -11,18 +11,18 @@ use Rattle.numbers.specs.Time.{inReach, spanBetween, spanSum, instantAfter, lat
 use Rattle.numbers.specs.Time.{instantAfterSeconds}
 use Rattle.shapes.specs.Box.{boxOfPoint, incorporating, inflated, boxOfLeg, overlap}
 use Rattle.shapes.specs.Distance.{criticalDistance, criticalDistanceSquared}
-use Rattle.shapes.specs.Domain.{isTime, isCoordinate, isRadius, isLimit, isWaypoint, isLeg, isProfile}
+use Rattle.limits.specs.Domain.{isTime, isCoordinate, isRadius, isLimit, isWaypoint, isLeg, isProfile}
 use Rattle.shapes.specs.Leg.{placeOf, holds, isInside, isBackward, isRising, isBrief}
 use Rattle.shapes.specs.Vector.{sum, difference, scaled, divided, dotOf}
 use Rattle.proximity.specs.Asked.{legsExamined, askedProximity}
-use Rattle.proximity.specs.Motion.{motionAt}
-use Rattle.proximity.specs.Quadratic.{meetingFrom}
+use Rattle.motions.specs.Motion.{motionAt}
+use Rattle.motions.specs.Quadratic.{meetingFrom}
 use Rattle.proximity.specs.Proximity.{passage, crossing, longRange, proximityOf}
 use Rattle.conflicts.specs.Asked.{cartsExamined, askedConflict}
 use Rattle.conflicts.specs.Conflict.{closingAt, enteredAt, conflictOf}
-use Rattle.lines.specs.Course.{runOf, courseOf}
+use Rattle.courses.specs.Course.{runOf, courseOf}
 use Rattle.lines.specs.NearLine.{acrossQuadratic, outlasting, pastEnd, spellOf, nearLine}
-use Rattle.lines.specs.Norm.{normOf, directionOf}
+use Rattle.courses.specs.Norm.{normOf, directionOf}
 use Rattle.lines.specs.Stationary.{stationaryProximity}
 use Rattle.waits.specs.Hint.{isPlaced}
 use Rattle.waits.specs.Hints as W
@@ -42,17 +42,17 @@ use Rattle.finding.specs.Walk.{gapsOf, nearLeg, withLegs, withObstacle, withObs
 use Rattle.segments.specs.Segment.{isDuring, legVerdict, firstOf, obstacleVerdict, segmentOf}
 use Rattle.arrivals.specs.Legs.{meets, follows, relieved, sooner}
 use Rattle.arrivals.specs.Search.{legsIn, moving, look, adjust, nextIn, next, soonest, sweep, turn, search, arrivals, flee}
-use Rattle.search.specs.Watched.{standing, nearOf, watchedLegs, watchedAll, arrivalsAt, endsNear}
+use Rattle.nearing.specs.Watched.{standing, nearOf, watchedLegs, watchedAll, arrivalsAt, endsNear}
 use Rattle.chains.specs.Handed.{chainOf, linksIn}
 use Rattle.chains.specs.Recursive.{recursiveSearch}
-use Rattle.ways.specs.Roots.{lateness, goalContour, below, level, firstRoot}
+use Rattle.choosing.specs.Roots.{lateness, goalContour, below, level, firstRoot}
 use Rattle.ways.specs.Tests.{toEnd, toGoal, waitsAt, fromStart, straight}
 use Rattle.ways.specs.Travel.{waypointOf, reachedFrom}
 use Rattle.ways.specs.Way.{wayOf, bothWays}
 use Rattle.paths.specs.Trying.{stopIn, toParent, startsAt, chainFrom}
 use Rattle.actions.specs.Action.{actionWords}
 use Rattle.actions.specs.Built.{holdAfter, stopped, ended, built, hintsAt}
-use Rattle.arrival_paths.specs.Asked.{isBudget, withNumbers}
+use Rattle.asking.specs.Beside.{isBudget, withNumbers}
 use Rattle.arrival_paths.specs.Path.{alongHints, taken, byHints, pathFor}
 use Rattle.plans.specs.Asked.{askedPlan}
 use Rattle.plans.specs.Laid.{planNumber, planRoom, actionRoomOf}

@@ -3,7 +3,7 @@
 use mathlib.Core.Path.{_≡_, refl, ap, _∙_}
 use mathlib.Core.List.{_++_}
 use lib.Ieee
-use Rattle.numbers.specs.Word.{signedOf}
+use Rattle.patterns.specs.Word.{signedOf}
 use Rattle.plans.specs.Plan.{Plan, allActions}
 use Rattle.requests.specs.Table.{legOf, startsFrom, numbersOf, pointsOf, tableOf}
 use Rattle.requests.specs.Asked.{requestPlan, streamPlan}

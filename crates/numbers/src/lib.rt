@@ -1,3 +1,2 @@
 // Numbers: the two kinds of time, and numbers as the words that carry them.
 pub mod time;
-pub mod word;

@@ -10,12 +10,12 @@ use lib.Signed.{≤ℤ-refl}
 use Rattle.numbers.proofs.Integers.{at-most→not-below}
 use Rattle.numbers.proofs.Reach.{both}
 use Rattle.shapes.specs.Box.{boxOfLeg}
-use Rattle.shapes.specs.Domain.{isLeg, isProfile}
+use Rattle.limits.specs.Domain.{isLeg, isProfile}
 use Rattle.shapes.specs.Leg.{isBackward, isBrief}
-use Rattle.shapes.specs.declared.domain.Examined.the-variants as X
+use Rattle.limits.specs.declared.domain.Examined.the-variants as X
 use Rattle.shapes.specs.declared.profile.CircularProfile.{CircularProfile}
 use Rattle.shapes.specs.declared.waypoint.Leg.{Leg}
-use Rattle.shapes.proofs.Limits.{leg-end}
+use Rattle.limits.proofs.Limits.{leg-end}
 use Rattle.obstacles.specs.Examined.{isShaped, areAllowed, agentExamined}
 use Rattle.obstacles.specs.Lent.{Lent, obstaclesOf}
 use Rattle.ranking.specs.Hints.{refusedBy, noHints, held}
@@ -26,7 +26,7 @@ use Rattle.hints.specs.Asked.{askedHints}
 use Rattle.hints.specs.Contour.{rankedHints}
 use Rattle.hints.proofs.Answered.{Refusal, Answer, asked-answered}
 use Rattle.search.specs.Asked.{askedArrivals}
-use Rattle.search.specs.Watched.{arrivalsAt}
+use Rattle.nearing.specs.Watched.{arrivalsAt}
 
 module _ (p : CircularProfile) (agent : Leg) (lent : Lent) (fine : agentExamined p agent lent ≡ X.Fine) where
   -- ---- The hints.

@@ -14,8 +14,8 @@ use Rattle.numbers.specs.declared.time.Duration.{Duration}
 use Rattle.numbers.specs.declared.time.TimePoint.{TimePoint}
 use Rattle.shapes.specs.Box.{boxOfLeg}
 use Rattle.shapes.specs.Leg.{isBrief}
-use Rattle.shapes.specs.declared.domain.Examined.{Examined}
-use Rattle.shapes.specs.declared.domain.Examined.the-variants as X
+use Rattle.limits.specs.declared.domain.Examined.{Examined}
+use Rattle.limits.specs.declared.domain.Examined.the-variants as X
 use Rattle.shapes.specs.declared.profile.CircularProfile.{CircularProfile}
 use Rattle.shapes.specs.declared.waypoint.Leg.{Leg}
 use Rattle.obstacles.specs.Examined.{agentExamined}
@@ -29,19 +29,19 @@ use Rattle.hints.specs.declared.contour.Scale.{Scale}
 use Rattle.hints.specs.declared.contour.Scaling.{Scaling}
 use Rattle.hints.specs.declared.contour.Scaling.the-variants as L
 use Rattle.arrivals.specs.Search as A
-use Rattle.search.specs.Watched.{arrivalsAt}
+use Rattle.nearing.specs.Watched.{arrivalsAt}
 use Rattle.chains.specs.Answer as N
 use Rattle.chains.specs.Answer.{Answer, isSpent}
 use Rattle.chains.specs.Handed.{firstOf, answered}
 use Rattle.chains.specs.declared.trial.Trial.{Trial}
 use Rattle.chains.specs.declared.trial.Trial.the-variants as T
-use Rattle.ways.specs.Roots.{goalContour, firstRoot}
+use Rattle.choosing.specs.Roots.{goalContour, firstRoot}
 use Rattle.ways.specs.Tests.{straight}
-use Rattle.ways.specs.declared.roots.Contour.{Contour}
-use Rattle.ways.specs.declared.roots.Contour.the-variants as C
+use Rattle.choosing.specs.declared.roots.Contour.{Contour}
+use Rattle.choosing.specs.declared.roots.Contour.the-variants as C
 use Rattle.ways.specs.declared.trip.Trip.{Trip}
 use Rattle.paths.specs.Trying.{chainFrom}
-use Rattle.arrival_paths.specs.Asked.{isBudget, withNumbers}
+use Rattle.asking.specs.Beside.{isBudget, withNumbers}
 use Rattle.arrival_paths.specs.Path as P
 use Rattle.arrival_paths.specs.Path.{Sought, taken, contoured, byHints, pathFor}
 use Rattle.plans.specs.Asked.{askedPlan}

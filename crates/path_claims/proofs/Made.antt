@@ -9,8 +9,8 @@ use lib.Dec.{eqb}
 use lib.ListN.{length}
 use Rattle.numbers.specs.declared.time.TimePoint.{TimePoint}
 use Rattle.shapes.specs.Box.{boxOfLeg}
-use Rattle.shapes.specs.declared.domain.Examined.{Examined}
-use Rattle.shapes.specs.declared.domain.Examined.the-variants as X
+use Rattle.limits.specs.declared.domain.Examined.{Examined}
+use Rattle.limits.specs.declared.domain.Examined.the-variants as X
 use Rattle.shapes.specs.declared.profile.CircularProfile.{CircularProfile}
 use Rattle.shapes.specs.declared.waypoint.Leg.{Leg}
 use Rattle.obstacles.specs.Examined.{agentExamined}
@@ -23,8 +23,8 @@ use Rattle.hints.specs.declared.contour.Scale.{Scale}
 use Rattle.hints.specs.declared.contour.Scaling.{Scaling}
 use Rattle.hints.specs.declared.contour.Scaling.the-variants as L
 use Rattle.arrivals.specs.Search as A
-use Rattle.search.specs.Watched.{arrivalsAt}
-use Rattle.arrival_paths.specs.Asked.{isBudget, withNumbers}
+use Rattle.nearing.specs.Watched.{arrivalsAt}
+use Rattle.asking.specs.Beside.{isBudget, withNumbers}
 use Rattle.plans.specs.Asked.{askedPlan}
 use Rattle.plans.specs.Plan.{Path, Paths, Of, Planned, Refused, scaled, timed, planned, tripOf, pathsFor}
 use Rattle.plans.specs.Plan.{pathsPlanned, timesPlanned, hintsPlanned, longPlan, planOf}

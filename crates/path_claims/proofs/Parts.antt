@@ -20,7 +20,7 @@ use Rattle.shapes.specs.Leg.{placeOf}
 use Rattle.shapes.specs.Vector.{difference}
 use Rattle.shapes.specs.declared.vector.Vector.{Vector}
 use Rattle.shapes.specs.declared.waypoint.Waypoint.{Waypoint}
-use Rattle.lines.specs.Norm.{normOf}
+use Rattle.courses.specs.Norm.{normOf}
 use Rattle.obstacles.specs.Obstacle.{Obstacle}
 use Rattle.waits.specs.declared.hint.WaitHint.{WaitHint}
 use Rattle.chains.specs.declared.trial.Trial.{Trial}

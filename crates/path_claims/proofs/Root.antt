@@ -7,7 +7,7 @@ use mathlib.Core.Bool.{true, false}
 use Rattle.numbers.specs.declared.time.Duration.{Duration}
 use Rattle.shapes.specs.Box.{boxOfLeg}
 use Rattle.shapes.specs.Leg.{isBrief}
-use Rattle.shapes.specs.declared.domain.Examined.the-variants as X
+use Rattle.limits.specs.declared.domain.Examined.the-variants as X
 use Rattle.shapes.specs.declared.profile.CircularProfile.{CircularProfile}
 use Rattle.shapes.specs.declared.waypoint.Leg.{Leg}
 use Rattle.obstacles.specs.Examined.{agentExamined}
@@ -18,8 +18,8 @@ use Rattle.finding.specs.Walk.{hintsOf}
 use Rattle.hints.specs.Asked.{askedHints}
 use Rattle.hints.proofs.Answered.{Refusal, asked-answered}
 use Rattle.chains.specs.declared.trial.First.the-variants.{Missing, Root}
-use Rattle.ways.specs.Roots.{firstRoot}
-use Rattle.ways.proofs.Chosen.{Chosen, AllBelow, sorted-rises, chosen, all-below}
+use Rattle.choosing.specs.Roots.{firstRoot}
+use Rattle.choosing.proofs.Chosen.{Chosen, AllBelow, sorted-rises, chosen, all-below}
 
 module _ (p : CircularProfile) (agent : Leg) (lent : Lent) (fine : agentExamined p agent lent ≡ X.Fine)
     (lasts : isBrief agent ≡ false) where

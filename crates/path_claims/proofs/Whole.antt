@@ -8,7 +8,7 @@ use native.Mathlib.Omega.{arith}
 use lib.ListN.{length}
 use Rattle.numbers.specs.declared.time.TimePoint.{TimePoint}
 use Rattle.shapes.specs.Leg.{isBrief}
-use Rattle.shapes.specs.declared.domain.Examined.the-variants as X
+use Rattle.limits.specs.declared.domain.Examined.the-variants as X
 use Rattle.shapes.specs.declared.profile.CircularProfile.{CircularProfile}
 use Rattle.shapes.specs.declared.waypoint.Leg.{Leg}
 use Rattle.obstacles.specs.Examined.{agentExamined}
@@ -21,7 +21,7 @@ use Rattle.arrivals.specs.Search as A
 use Rattle.arrivals.specs.Sweeps.{Rising}
 use Rattle.arrivals.proofs.Lists.{all-map, all-members}
 use Rattle.arrivals.proofs.Theorems as Theorems
-use Rattle.search.specs.Watched.{viewAt, watchedAll, arrivalsAt}
+use Rattle.nearing.specs.Watched.{viewAt, watchedAll, arrivalsAt}
 use Rattle.ways.specs.declared.trip.Trip.{Trip}
 use Rattle.plans.specs.Plan.{Path, tripOf}
 use Rattle.plans.specs.Plan.{planOf}

@@ -10,7 +10,7 @@ use lib.IntN.{pos}
 use lib.ListN.{length, length-map}
 use Rattle.lists.specs.Rows.{withRow, withRows, hasRoom}
 use Rattle.lists.proofs.Fours.{Fours, fours-map, length-rows, head-last, handing-over}
-use Rattle.numbers.specs.Word.{wordOf}
+use Rattle.patterns.specs.Word.{wordOf}
 use Rattle.numbers.proofs.Reach.{both}
 use Rattle.shapes.specs.declared.waypoint.Leg.{Leg}
 use Rattle.actions.specs.Action.{actionWords, actionRows}
@@ -19,8 +19,8 @@ use Rattle.actions.proofs.Rowed.{actions-fours}
 use Rattle.plans.specs.Plan.{Path, Of, Planned, planned, shortPlan, pathWords, pathRows, allActions, headRows}
 use Rattle.plans.specs.Plan as Q
 use Rattle.plans.specs.Laid.{PutPaths, SettledBoth, PlanHanded, countsOf, fits, planNumber, planRoom, actionRoomOf}
-use Rattle.plans.specs.declared.linear_paths.Paths.{Paths}
-use Rattle.plans.specs.declared.linear_paths.Paths.the-variants as R
+use Rattle.plans.specs.declared.rooms.Paths.{Paths}
+use Rattle.plans.specs.declared.rooms.Paths.the-variants as R
 
 -- Rows that were put and settled are the plan's.
 pub handed-plan : (hints times sweeps : ℕ) (ps : List Path) {lent room left lentActions actionRoom leftActions : List ℕ} {r : ℕ} →

@@ -1,5 +1,1 @@
-mod Few
-mod Fewer
-mod Keeping
-mod Handing
-mod Among
+pub mod Handing

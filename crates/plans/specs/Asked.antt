@@ -1,13 +1,13 @@
 -- What the call for a whole plan answers: its input is examined first (RULES 5.1 to 5.7).
 -- Assumes nothing.
 use Prim.Native.Nat.{ℕ}
-use Rattle.shapes.specs.declared.domain.Examined.{Examined}
-use Rattle.shapes.specs.declared.domain.Examined.the-variants as X
+use Rattle.limits.specs.declared.domain.Examined.{Examined}
+use Rattle.limits.specs.declared.domain.Examined.the-variants as X
 use Rattle.shapes.specs.declared.profile.CircularProfile.{CircularProfile}
 use Rattle.shapes.specs.declared.waypoint.Leg.{Leg}
 use Rattle.obstacles.specs.Lent.{Lent, obstaclesOf}
 use Rattle.obstacles.specs.Examined.{agentExamined}
-use Rattle.arrival_paths.specs.Asked.{isBudget, withNumbers}
+use Rattle.asking.specs.Beside.{isBudget, withNumbers}
 use Rattle.plans.specs.Plan as Q
 
 unfoldable pub askedPlan : CircularProfile → Leg → ℕ → Lent → Q.Plan

@@ -9,8 +9,8 @@ use Rattle.lists.specs.Outcome.{wiped}
 use Rattle.lists.specs.Rows.{withRows, wordsIn, hasRoom}
 use Rattle.actions.specs.Action.{actionRows}
 use Rattle.plans.specs.Plan as Q
-use Rattle.plans.specs.declared.linear_paths.Paths.{Paths}
-use Rattle.plans.specs.declared.linear_paths.Paths.the-variants as R
+use Rattle.plans.specs.declared.rooms.Paths.{Paths}
+use Rattle.plans.specs.declared.rooms.Paths.the-variants as R
 
 -- ---- Parts of the work: the rows of an answer, as far as there is room. A refusal's rows are wiped by the call.
 

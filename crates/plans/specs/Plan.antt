@@ -6,7 +6,7 @@ use mathlib.Core.List.{List, [], _∷_, _++_, map}
 use lib.Dec.{eqb}
 use lib.IntN.{ℤ}
 use lib.ListN.{length}
-use Rattle.numbers.specs.Word.{wordOf}
+use Rattle.patterns.specs.Word.{wordOf}
 use Rattle.numbers.specs.declared.time.Duration.{Duration}
 use Rattle.numbers.specs.declared.time.TimePoint.{TimePoint}
 use Rattle.shapes.specs.Box.{boxOfLeg}
@@ -22,7 +22,7 @@ use Rattle.hints.specs.declared.contour.Scale.{Scale}
 use Rattle.hints.specs.declared.contour.Scaling.{Scaling}
 use Rattle.hints.specs.declared.contour.Scaling.the-variants as L
 use Rattle.arrivals.specs.Search as A
-use Rattle.search.specs.Watched.{arrivalsAt}
+use Rattle.nearing.specs.Watched.{arrivalsAt}
 use Rattle.ways.specs.declared.trip.Trip.{Trip}
 use Rattle.actions.specs.Built.{unheld}
 use Rattle.actions.specs.declared.action.SafeAction.{SafeAction}

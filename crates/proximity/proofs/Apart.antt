@@ -13,14 +13,14 @@ use Rattle.numbers.specs.declared.time.Duration.{Duration}
 use Rattle.numbers.specs.declared.time.Span.the-variants as S
 use Rattle.numbers.proofs.Answers.{span-made}
 use Rattle.numbers.proofs.Integers.{below→at-most, below-or-at-most, at-most-trans, difference-mono}
-use Rattle.shapes.specs.declared.domain.Examined.the-variants as X
+use Rattle.limits.specs.declared.domain.Examined.the-variants as X
 use Rattle.shapes.specs.declared.waypoint.Leg.{Leg}
-use Rattle.proximity.specs.Quadratic.{meetingFrom}
+use Rattle.motions.specs.Quadratic.{meetingFrom}
 use Rattle.proximity.specs.Range.{rangeStart, rangeEnd}
 use Rattle.proximity.specs.Proximity.{longRange, proximityOf}
 use Rattle.proximity.specs.Asked.{legsExamined, askedProximity}
-use Rattle.proximity.specs.declared.quadratic.Meeting.{Meeting}
-use Rattle.proximity.specs.declared.quadratic.Meeting.the-variants as M
+use Rattle.motions.specs.declared.quadratic.Meeting.{Meeting}
+use Rattle.motions.specs.declared.quadratic.Meeting.the-variants as M
 use Rattle.proximity.specs.declared.detect.Proximity.{Proximity}
 use Rattle.proximity.specs.declared.detect.Proximity.the-variants.{Never, Enters, Passes, Refused}
 use Rattle.proximity.proofs.Holding.{in-range}

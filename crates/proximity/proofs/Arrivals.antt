@@ -20,8 +20,8 @@ use Rattle.numbers.proofs.Reach.{smaller-in-reach, difference-in-reach}
 use Rattle.numbers.proofs.Order.{between-size}
 use Rattle.numbers.proofs.Spans.{spanFrom, between-given}
 use Rattle.numbers.proofs.Width.{in-width}
-use Rattle.shapes.specs.Domain.{isTime}
-use Rattle.shapes.proofs.Limits.{time-not-below, time-at-most, time-in-reach}
+use Rattle.limits.specs.Domain.{isTime}
+use Rattle.limits.proofs.Limits.{time-not-below, time-at-most, time-in-reach}
 
 time-size : (t : TimePoint) → isTime t ≡ true → natAbs (t .0) ≤ 2 ^ 52
 time-size t h = omega (arith, size-at-most (t .0) (10 ^ 15) (time-not-below t h) (time-at-most t h))

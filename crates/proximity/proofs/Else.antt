@@ -7,11 +7,11 @@ use denote.Enum.Declared.{tagOf}
 use lib.Ieee.{Float}
 use Rattle.numbers.specs.declared.time.TimePoint.{TimePoint}
 use Rattle.proximity.specs.Range.{nearBy, orElse}
-use Rattle.proximity.specs.declared.motion.Motion.{Motion}
-use Rattle.proximity.specs.declared.motion.Motion.the-variants as M
+use Rattle.motions.specs.declared.motion.Motion.{Motion}
+use Rattle.motions.specs.declared.motion.Motion.the-variants as M
 use Rattle.proximity.specs.declared.detect.Proximity.{Proximity}
 use Rattle.proximity.specs.declared.detect.Proximity.the-variants.{Never, Enters, Passes, Refused}
-use Rattle.proximity.proofs.motion.Motion.{the-type as motion}
+use Rattle.motions.proofs.motion.Motion.{the-type as motion}
 use Rattle.proximity.proofs.detect.Proximity.{the-type as proximity}
 
 -- Past `if let Motion::Strayed`, where the agent is nowhere, nothing is near.

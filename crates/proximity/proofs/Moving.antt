@@ -14,15 +14,15 @@ use Rattle.numbers.specs.declared.time.Span.the-variants as S
 use Rattle.numbers.proofs.Spans.{part-given}
 use Rattle.shapes.specs.Leg.{holds}
 use Rattle.shapes.specs.declared.waypoint.Leg.{Leg}
-use Rattle.proximity.specs.Motion.{velocityOver, placeAfter, lasting, motionAt}
-use Rattle.proximity.specs.Quadratic.{quadraticOf, moving, meetingFrom}
+use Rattle.motions.specs.Motion.{velocityOver, placeAfter, lasting, motionAt}
+use Rattle.motions.specs.Quadratic.{quadraticOf, moving, meetingFrom}
 use Rattle.proximity.specs.Range.{rangeStart, rangeEnd}
-use Rattle.proximity.specs.declared.motion.Motion.{Motion}
-use Rattle.proximity.specs.declared.motion.Motion.the-variants.{At, Outside, Strayed}
-use Rattle.proximity.specs.declared.motion.State.{State}
-use Rattle.proximity.specs.declared.quadratic.Quadratic.{Quadratic}
-use Rattle.proximity.specs.declared.quadratic.Meeting.{Meeting}
-use Rattle.proximity.specs.declared.quadratic.Meeting.the-variants as M
+use Rattle.motions.specs.declared.motion.Motion.{Motion}
+use Rattle.motions.specs.declared.motion.Motion.the-variants.{At, Outside, Strayed}
+use Rattle.motions.specs.declared.motion.State.{State}
+use Rattle.motions.specs.declared.quadratic.Quadratic.{Quadratic}
+use Rattle.motions.specs.declared.quadratic.Meeting.{Meeting}
+use Rattle.motions.specs.declared.quadratic.Meeting.the-variants as M
 use Rattle.proximity.proofs.Holding.{held, in-range}
 
 -- ---- A leg at an instant.

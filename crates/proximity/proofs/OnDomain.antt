@@ -21,14 +21,14 @@ use Rattle.numbers.proofs.Cut.{nanosecondsOf}
 use Rattle.numbers.proofs.Integers.{sum-mono, difference-not-below}
 use Rattle.numbers.proofs.Seconds.{seconds-known, seconds-not-below, nanoseconds-mono}
 use Rattle.numbers.proofs.Spans.{spanFrom}
-use Rattle.shapes.specs.Domain.{isTime, isLimit, isLeg}
-use Rattle.shapes.specs.declared.domain.Examined.the-variants as X
+use Rattle.limits.specs.Domain.{isTime, isLimit, isLeg}
+use Rattle.limits.specs.declared.domain.Examined.the-variants as X
 use Rattle.shapes.specs.declared.waypoint.Leg.{Leg}
-use Rattle.shapes.proofs.Limits.{time-in-reach, limit-within}
+use Rattle.limits.proofs.Limits.{time-in-reach, limit-within}
 use Rattle.proximity.specs.Range.{rangeStart, rangeEnd, isShort, nearAt, orElse, shortRange}
 use Rattle.proximity.specs.Proximity.{meeting, standing, passage, crossing, longRange, proximityOf}
 use Rattle.proximity.specs.Asked.{legsExamined, askedProximity}
-use Rattle.proximity.specs.declared.quadratic.Meeting.{Meeting}
+use Rattle.motions.specs.declared.quadratic.Meeting.{Meeting}
 use Rattle.proximity.specs.declared.detect.Proximity.{Proximity}
 use Rattle.proximity.specs.declared.detect.Proximity.the-variants.{Never, Enters, Passes, Refused}
 use Rattle.proximity.proofs.Holding.{in-range, missed-backward}

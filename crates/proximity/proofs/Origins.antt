@@ -29,14 +29,14 @@ use Rattle.root.specs.declared.nearest.Root.{Root}
 use Rattle.root.specs.declared.nearest.Root.the-variants as R
 use Rattle.shapes.specs.Leg.{holds}
 use Rattle.shapes.specs.declared.waypoint.Leg.{Leg}
-use Rattle.proximity.specs.Quadratic.{meetingFrom}
+use Rattle.motions.specs.Quadratic.{meetingFrom}
 use Rattle.proximity.specs.Range.{rangeStart, rangeEnd, isShort, isNear, nearBy, nearAt, orElse, shortRange}
 use Rattle.proximity.specs.Proximity.{spanning, reaching, rooted, meeting}
 use Rattle.proximity.specs.Proximity.{standing, passage, crossing, longRange, proximityOf}
-use Rattle.proximity.specs.declared.motion.Motion.{Motion}
-use Rattle.proximity.specs.declared.quadratic.Quadratic.{Quadratic}
-use Rattle.proximity.specs.declared.quadratic.Meeting.{Meeting}
-use Rattle.proximity.specs.declared.quadratic.Meeting.the-variants as M
+use Rattle.motions.specs.declared.motion.Motion.{Motion}
+use Rattle.motions.specs.declared.quadratic.Quadratic.{Quadratic}
+use Rattle.motions.specs.declared.quadratic.Meeting.{Meeting}
+use Rattle.motions.specs.declared.quadratic.Meeting.the-variants as M
 use Rattle.proximity.specs.declared.detect.Proximity.{Proximity}
 use Rattle.proximity.specs.declared.detect.Proximity.the-variants.{Never, Enters, Passes, Refused}
 use Rattle.proximity.proofs.Holding.{missed-backward}

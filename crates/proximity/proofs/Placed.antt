@@ -9,10 +9,10 @@ use Rattle.floats.specs.Domain.{farthest, widest}
 use Rattle.numbers.proofs.Reach.{both}
 use Rattle.numbers.proofs.Order.{chosen-has}
 use Rattle.shapes.specs.Leg.{isBackward, isRising}
-use Rattle.shapes.specs.Domain.{isTime, isLimit, isLeg}
-use Rattle.shapes.specs.declared.domain.Examined.the-variants as X
+use Rattle.limits.specs.Domain.{isTime, isLimit, isLeg}
+use Rattle.limits.specs.declared.domain.Examined.the-variants as X
 use Rattle.shapes.specs.declared.waypoint.Leg.{Leg}
-use Rattle.shapes.proofs.Limits as L
+use Rattle.limits.proofs.Limits as L
 use Rattle.proximity.specs.Range.{rangeStart, rangeEnd}
 use Rattle.proximity.specs.Asked.{legsExamined}
 use Rattle.proximity.proofs.Holding.{starts, ends}

@@ -27,8 +27,8 @@ use Rattle.root.proofs.Meets as N
 use Rattle.root.proofs.Size.{root-fine}
 use Rattle.shapes.specs.declared.waypoint.Leg.{Leg}
 use Rattle.proximity.specs.Range.{rangeStart, rangeEnd}
-use Rattle.proximity.specs.declared.motion.State.{State}
-use Rattle.proximity.specs.declared.quadratic.Quadratic.{Quadratic}
+use Rattle.motions.specs.declared.motion.State.{State}
+use Rattle.motions.specs.declared.quadratic.Quadratic.{Quadratic}
 use Rattle.proximity.proofs.Holding.{starts, ends}
 use Rattle.proximity.proofs.Short.{wide-seconds, Long, long-around}
 use Rattle.proximity.proofs.Moving.{Moves, Meets, range-in-order}

@@ -6,14 +6,14 @@ use lib.Ieee.{Float, binary64, toBits}
 use Rattle.lists.specs.Outcome.{Outcome, Gives, Refuses}
 use Rattle.numbers.specs.declared.time.TimePoint.{TimePoint}
 use Rattle.shapes.specs.Leg.{isBackward, isRising}
-use Rattle.shapes.specs.Domain.{isTime, isLimit, isLeg}
-use Rattle.shapes.specs.declared.domain.Examined.{Examined}
-use Rattle.shapes.specs.declared.domain.Examined.the-variants as X
+use Rattle.limits.specs.Domain.{isTime, isLimit, isLeg}
+use Rattle.limits.specs.declared.domain.Examined.{Examined}
+use Rattle.limits.specs.declared.domain.Examined.the-variants as X
 use Rattle.shapes.specs.declared.waypoint.Leg.{Leg}
-use Rattle.proximity.specs.Motion.{motionAt}
+use Rattle.motions.specs.Motion.{motionAt}
 use Rattle.proximity.specs.Proximity.{proximityOf}
-use Rattle.proximity.specs.declared.motion.Motion.{Motion}
-use Rattle.proximity.specs.declared.motion.Motion.the-variants as M
+use Rattle.motions.specs.declared.motion.Motion.{Motion}
+use Rattle.motions.specs.declared.motion.Motion.the-variants as M
 use Rattle.proximity.specs.declared.calls.Whereabouts.{Whereabouts}
 use Rattle.proximity.specs.declared.calls.Whereabouts.the-variants as Q
 use Rattle.proximity.specs.declared.detect.Proximity.{Proximity}

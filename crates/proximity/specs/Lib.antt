@@ -1,5 +1,3 @@
-pub mod Motion
-pub mod Quadratic
 pub mod Range
 pub mod Proximity
 pub mod Asked

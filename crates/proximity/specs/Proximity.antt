@@ -9,7 +9,7 @@ use Rattle.floats.specs.Size.{nought}
 use Rattle.floats.specs.Compare.{largerOf, sizeOf}
 use Rattle.floats.specs.Quadratic.{radicand, lower, upper}
 use Rattle.floats.specs.Domain.{still, shortest}
-use Rattle.numbers.specs.Word.{wordOf}
+use Rattle.patterns.specs.Word.{wordOf}
 use Rattle.numbers.specs.Time.{spanBetween, instantAfterSeconds, secondsOf}
 use Rattle.numbers.specs.declared.time.TimePoint.{TimePoint}
 use Rattle.numbers.specs.declared.time.Duration.{Duration}
@@ -21,11 +21,11 @@ use Rattle.root.specs.Root.{rootOf}
 use Rattle.root.specs.declared.nearest.Root.{Root}
 use Rattle.root.specs.declared.nearest.Root.the-variants as R
 use Rattle.shapes.specs.declared.waypoint.Leg.{Leg}
-use Rattle.proximity.specs.Quadratic.{meetingFrom}
+use Rattle.motions.specs.Quadratic.{meetingFrom}
 use Rattle.proximity.specs.Range.{rangeStart, rangeEnd, isShort, shortRange}
-use Rattle.proximity.specs.declared.quadratic.Quadratic.{Quadratic}
-use Rattle.proximity.specs.declared.quadratic.Meeting.{Meeting}
-use Rattle.proximity.specs.declared.quadratic.Meeting.the-variants as M
+use Rattle.motions.specs.declared.quadratic.Quadratic.{Quadratic}
+use Rattle.motions.specs.declared.quadratic.Meeting.{Meeting}
+use Rattle.motions.specs.declared.quadratic.Meeting.the-variants as M
 use Rattle.proximity.specs.declared.detect.Proximity.{Proximity}
 use Rattle.proximity.specs.declared.detect.Proximity.the-variants.{Never, Enters, Passes, Refused}
 use Rattle.proximity.specs.declared.detect.Entry.{Entry}

@@ -11,9 +11,9 @@ use Rattle.numbers.specs.declared.time.TimePoint.{TimePoint}
 use Rattle.numbers.specs.declared.time.Duration.{Duration}
 use Rattle.shapes.specs.declared.waypoint.Leg.{Leg}
 use Rattle.shapes.specs.declared.vector.Vector.{Vector}
-use Rattle.proximity.specs.Motion.{motionAt}
-use Rattle.proximity.specs.declared.motion.Motion.{Motion}
-use Rattle.proximity.specs.declared.motion.Motion.the-variants.{At, Outside, Strayed}
+use Rattle.motions.specs.Motion.{motionAt}
+use Rattle.motions.specs.declared.motion.Motion.{Motion}
+use Rattle.motions.specs.declared.motion.Motion.the-variants.{At, Outside, Strayed}
 use Rattle.proximity.specs.declared.detect.Proximity.{Proximity}
 use Rattle.proximity.specs.declared.detect.Proximity.the-variants.{Never, Enters, Passes, Refused}
 

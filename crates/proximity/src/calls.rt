@@ -1,12 +1,12 @@
 // The calls for motion and proximity: each examines its own input, then does the work (docs/RULES.md, 5.1 to 5.4 and 5.11).
 use crate::detect;
 use crate::detect::Proximity;
-use crate::motion;
-use crate::motion::Motion;
-use crate::motion::State;
+use limits::domain;
+use limits::domain::Examined;
+use motions::motion;
+use motions::motion::Motion;
+use motions::motion::State;
 use numbers::time::TimePoint;
-use shapes::domain;
-use shapes::domain::Examined;
 use shapes::waypoint::Leg;
 ghost use mathlib.Core.Path.{_≡_};
 ghost use Rattle.proximity.specs.Asked.{askedPosition, legsExamined, askedProximity};

@@ -1,10 +1,10 @@
 // When two legs come within a distance and when they leave it: `detect_proximity` of the Rust (docs/RULES.md, section 8).
-use crate::motion;
-use crate::motion::Motion;
-use crate::quadratic;
-use crate::quadratic::Meeting;
-use crate::quadratic::Quadratic;
 use floats::comparison;
+use motions::motion;
+use motions::motion::Motion;
+use motions::quadratic;
+use motions::quadratic::Meeting;
+use motions::quadratic::Quadratic;
 use numbers::time::Instant;
 use numbers::time::Span;
 use numbers::time::TimePoint;

@@ -6,4 +6,3 @@ pub mod Theorems
 pub mod Held
 mod Places
 pub mod OneByOne
-pub mod Lending

@@ -1,3 +1,2 @@
 pub mod Ranked
 pub mod Hints
-pub mod Lent

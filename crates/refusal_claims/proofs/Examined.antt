@@ -3,15 +3,15 @@
 use Prim.Native.Nat.{ℕ}
 use mathlib.Core.Bool.{Bool, true, false, _&&_, cond}
 use lib.Dec.{eqb}
-use Rattle.shapes.specs.Domain.{isLeg, isProfile}
+use Rattle.limits.specs.Domain.{isLeg, isProfile}
 use Rattle.shapes.specs.Leg.{isBackward}
-use Rattle.shapes.specs.declared.domain.Examined.{Examined}
-use Rattle.shapes.specs.declared.domain.Examined.the-variants.{Fine, Refused}
+use Rattle.limits.specs.declared.domain.Examined.{Examined}
+use Rattle.limits.specs.declared.domain.Examined.the-variants.{Fine, Refused}
 use Rattle.shapes.specs.declared.profile.CircularProfile.{CircularProfile}
 use Rattle.shapes.specs.declared.waypoint.Leg.{Leg}
 use Rattle.obstacles.specs.Examined.{isShaped, areAllowed, agentExamined}
 use Rattle.obstacles.specs.Lent.{Lent}
-use Rattle.arrival_paths.specs.Asked.{numbered, withNumbers, withLent}
+use Rattle.asking.specs.Beside.{numbered, withNumbers, withLent}
 
 -- An examination whose refusals are such numbers.
 abbrev pub Finds : (ℕ → Type 0) → Examined → Type 0

@@ -7,10 +7,10 @@ use mathlib.Core.Bool.{Bool, true, false, _&&_, cond, true≢false}
 use lib.Ieee.{Float}
 use Rattle.numbers.specs.declared.time.TimePoint.{TimePoint}
 use Rattle.shapes.specs.Box.{boxOfLeg}
-use Rattle.shapes.specs.Domain.{isLimit, isLeg, isProfile}
+use Rattle.limits.specs.Domain.{isLimit, isLeg, isProfile}
 use Rattle.shapes.specs.Leg.{isBackward, isRising}
-use Rattle.shapes.specs.declared.domain.Examined.{Examined}
-use Rattle.shapes.specs.declared.domain.Examined.the-variants as X
+use Rattle.limits.specs.declared.domain.Examined.{Examined}
+use Rattle.limits.specs.declared.domain.Examined.the-variants as X
 use Rattle.shapes.specs.declared.profile.CircularProfile.{CircularProfile}
 use Rattle.shapes.specs.declared.waypoint.Leg.{Leg}
 use Rattle.proximity.specs.Asked.{legsExamined, askedProximity}

@@ -6,10 +6,10 @@ use mathlib.Core.Bool.{Bool, true, false, _&&_, cond}
 use mathlib.Core.List.{List}
 use lib.ListN.{length}
 use Rattle.numbers.specs.declared.time.TimePoint.{TimePoint}
-use Rattle.shapes.specs.Domain.{isTime}
+use Rattle.limits.specs.Domain.{isTime}
 use Rattle.shapes.specs.Leg.{isBrief}
-use Rattle.shapes.specs.declared.domain.Examined.{Examined}
-use Rattle.shapes.specs.declared.domain.Examined.the-variants as X
+use Rattle.limits.specs.declared.domain.Examined.{Examined}
+use Rattle.limits.specs.declared.domain.Examined.the-variants as X
 use Rattle.shapes.specs.declared.profile.CircularProfile.{CircularProfile}
 use Rattle.shapes.specs.declared.waypoint.Leg.{Leg}
 use Rattle.obstacles.specs.Examined.{agentExamined}
@@ -17,7 +17,7 @@ use Rattle.obstacles.specs.Lent.{Lent, obstaclesOf}
 use Rattle.obstacles.specs.Obstacle.{Obstacle}
 use Rattle.obstacles.proofs.Accepted.{accepted}
 use Rattle.ranking.specs.Hints.{held}
-use Rattle.ranking.specs.Lent.{lentHints}
+use Rattle.lending.specs.Lent.{lentHints}
 use Rattle.ranking.specs.declared.order.RankedHint.{RankedHint}
 use Rattle.ranking.specs.declared.ranked_hints.RankedHints.{RankedHints}
 use Rattle.hints.specs.Contour.{scaleOf}
@@ -25,9 +25,10 @@ use Rattle.hints.specs.declared.contour.Scaling.{Scaling}
 use Rattle.hints.specs.declared.contour.Scaling.the-variants as L
 use Rattle.hints.proofs.Reaches.{Scaled, scale-given}
 use Rattle.arrival_paths.specs.Path.{Refused}
-use Rattle.arrival_paths.specs.Asked.{isBudget, withNumbers, withLent, lonePath, askedPath}
+use Rattle.asking.specs.Beside.{isBudget, withNumbers, withLent}
+use Rattle.arrival_paths.specs.Asked.{lonePath, askedPath}
 use Rattle.plans.specs.Plan.{tripOf}
-use Rattle.arrival_paths.proofs.Fine.{numbers-fine, lent-fine}
+use Rattle.asking.proofs.Fine.{numbers-fine, lent-fine}
 use Rattle.refusal_claims.specs.Numbers.{PathRefusal, Number, Shape, Backward, NoLine}
 use Rattle.refusal_claims.proofs.Examined.{Finds, agent-finds, numbers-find, lent-finds}
 use Rattle.refusal_claims.proofs.Path.{Seeks, seeks}

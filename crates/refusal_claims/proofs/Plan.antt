@@ -11,8 +11,8 @@ use lib.ListN.{length}
 use Rattle.numbers.specs.declared.time.TimePoint.{TimePoint}
 use Rattle.shapes.specs.Box.{boxOfLeg}
 use Rattle.shapes.specs.Leg.{isBrief}
-use Rattle.shapes.specs.declared.domain.Examined.{Examined}
-use Rattle.shapes.specs.declared.domain.Examined.the-variants as X
+use Rattle.limits.specs.declared.domain.Examined.{Examined}
+use Rattle.limits.specs.declared.domain.Examined.the-variants as X
 use Rattle.shapes.specs.declared.profile.CircularProfile.{CircularProfile}
 use Rattle.shapes.specs.declared.waypoint.Leg.{Leg}
 use Rattle.obstacles.specs.Examined.{agentExamined}
@@ -29,17 +29,17 @@ use Rattle.hints.specs.declared.contour.Scaling.the-variants as L
 use Rattle.hints.proofs.Reaches.{Scaled, scale-given}
 use Rattle.arrivals.specs.Search as A
 use Rattle.search.specs.Asked.{askedArrivals}
-use Rattle.search.specs.Watched.{arrivalsAt}
+use Rattle.nearing.specs.Watched.{arrivalsAt}
 use Rattle.search_claims.specs.DemandThree.{Refusal, by-numbers, by-shape, by-creep, by-stuck}
 use Rattle.search_claims.proofs.DemandThree.{demand-three}
 use Rattle.ways.specs.declared.trip.Trip.{Trip}
 use Rattle.arrival_paths.specs.Path as P
 use Rattle.arrival_paths.specs.Path.{pathFor}
-use Rattle.arrival_paths.specs.Asked.{isBudget, withNumbers}
+use Rattle.asking.specs.Beside.{isBudget, withNumbers}
 use Rattle.plans.specs.Asked.{askedPlan}
 use Rattle.plans.specs.Plan.{Path, Paths, Of, first, sought, pathsFor, Plan, Planned, Refused, scaled, timed, planned, tripOf}
 use Rattle.plans.specs.Plan.{pathsPlanned, timesPlanned, hintsPlanned, longPlan, shortPlan, planOf}
-use Rattle.arrival_paths.proofs.Fine.{numbers-fine}
+use Rattle.asking.proofs.Fine.{numbers-fine}
 use Rattle.path_claims.proofs.Calls.{hints-alone, arrivals-alone}
 use Rattle.refusal_claims.specs.Numbers.{HintsRefusal, PathRefusal, PlanRefusal}
 use Rattle.refusal_claims.specs.Numbers.{Number, Shape, Backward, NoLine, Creep, Apart, Strayed, Stuck, Full, Spent}

@@ -12,10 +12,10 @@ use Rattle.numbers.proofs.Integers.{below→at-most}
 use Rattle.numbers.proofs.Order.{chosen-has}
 use Rattle.numbers.proofs.Reach.{both}
 use Rattle.shapes.specs.Box.{boxOfLeg}
-use Rattle.shapes.specs.Domain.{isLimit, isWaypoint, isLeg, isProfile}
+use Rattle.limits.specs.Domain.{isLimit, isWaypoint, isLeg, isProfile}
 use Rattle.shapes.specs.Leg.{isBackward, isRising}
-use Rattle.shapes.specs.declared.domain.Examined.{Examined}
-use Rattle.shapes.specs.declared.domain.Examined.the-variants as X
+use Rattle.limits.specs.declared.domain.Examined.{Examined}
+use Rattle.limits.specs.declared.domain.Examined.the-variants as X
 use Rattle.shapes.specs.declared.profile.CircularProfile.{CircularProfile}
 use Rattle.shapes.specs.declared.waypoint.Leg.{Leg}
 use Rattle.proximity.specs.Proximity.{proximityOf}

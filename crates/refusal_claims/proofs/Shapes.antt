@@ -10,21 +10,21 @@ use lib.ListN.{length}
 use lib.Ieee.{Float}
 use Rattle.numbers.specs.declared.time.TimePoint.{TimePoint}
 use Rattle.numbers.proofs.Reach.{both}
-use Rattle.shapes.specs.Asked.{askedBox}
+use Rattle.limits.specs.Asked.{askedBox}
 use Rattle.shapes.specs.Box.{boxOfLeg}
-use Rattle.shapes.specs.Domain.{isTime, isLeg, isProfile}
+use Rattle.limits.specs.Domain.{isTime, isLeg, isProfile}
 use Rattle.shapes.specs.Leg.{isBackward}
 use Rattle.shapes.specs.declared.bounding_box.BoundingBox.{BoundingBox}
-use Rattle.shapes.specs.declared.calls.Boxed.{Boxed}
-use Rattle.shapes.specs.declared.calls.Boxed.the-variants as B
+use Rattle.limits.specs.declared.calls.Boxed.{Boxed}
+use Rattle.limits.specs.declared.calls.Boxed.the-variants as B
 use Rattle.shapes.specs.declared.profile.CircularProfile.{CircularProfile}
 use Rattle.shapes.specs.declared.waypoint.Leg.{Leg}
-use Rattle.shapes.proofs.Limits.{time-in-reach}
+use Rattle.limits.proofs.Limits.{time-in-reach}
 use Rattle.proximity.specs.Asked.{askedPosition}
-use Rattle.proximity.specs.Motion.{motionAt}
+use Rattle.motions.specs.Motion.{motionAt}
 use Rattle.proximity.specs.declared.calls.Whereabouts.{Whereabouts}
 use Rattle.proximity.specs.declared.calls.Whereabouts.the-variants as W
-use Rattle.proximity.specs.declared.motion.Motion.{Motion}
+use Rattle.motions.specs.declared.motion.Motion.{Motion}
 use Rattle.proximity.proofs.Arrivals.{times-given}
 use Rattle.proximity.proofs.Moving.{Motioned, there, outside, strayed, motion, never-strays}
 use Rattle.proximity.proofs.Placed.{accepted}

@@ -27,19 +27,19 @@ use Rattle.proximity.proofs.Times.{Early, by-root, by-creep, by-gap, by-reach, 
 use Rattle.conflicts.specs.declared.conflict.Verdict.{Verdict}
 use Rattle.conflicts.specs.declared.conflict.Verdict.the-variants as J
 use Rattle.conflicts.proofs.Conflicts.{refused-by-proximity}
-use Rattle.lines.specs.Norm.{normOf}
+use Rattle.courses.specs.Norm.{normOf}
 use Rattle.obstacles.specs.Obstacle.{Obstacle}
 use Rattle.segments.specs.Segment.{segmentOf}
 use Rattle.segments.proofs.Safe.{refused}
 use Rattle.chains.specs.declared.trial.Trial.{Trial}
 use Rattle.chains.specs.declared.trial.Trial.the-variants as T
-use Rattle.ways.specs.Roots as Roots
-use Rattle.ways.specs.Roots.{lateness, goalContour}
+use Rattle.choosing.specs.Roots as Roots
+use Rattle.choosing.specs.Roots.{lateness, goalContour}
 use Rattle.ways.specs.Tests.{reaching, toEnd, toGoal, waitsAt, fromStart, staysTill, straight}
 use Rattle.ways.specs.Travel.{waypointAt, rooted, arriving, reachedFrom}
 use Rattle.ways.specs.Way.{judged, wayOf, next, bothWays}
-use Rattle.ways.specs.declared.roots.Contour.{Contour}
-use Rattle.ways.specs.declared.roots.Contour.the-variants as C
+use Rattle.choosing.specs.declared.roots.Contour.{Contour}
+use Rattle.choosing.specs.declared.roots.Contour.the-variants as C
 use Rattle.ways.specs.declared.travel.Reached.{Reached}
 use Rattle.ways.specs.declared.travel.Reached.the-variants as W
 use Rattle.ways.specs.declared.trip.Trip.{Trip}

@@ -10,8 +10,8 @@ use lib.ListN.{length}
 use lib.IntN.{ℤ}
 use lib.Ieee.{Float}
 use Rattle.numbers.specs.declared.time.TimePoint.{TimePoint}
-use Rattle.shapes.specs.Asked.{askedBox}
-use Rattle.shapes.specs.declared.calls.Boxed.the-variants as B
+use Rattle.limits.specs.Asked.{askedBox}
+use Rattle.limits.specs.declared.calls.Boxed.the-variants as B
 use Rattle.shapes.specs.declared.profile.CircularProfile.{CircularProfile}
 use Rattle.shapes.specs.declared.waypoint.Leg.{Leg}
 use Rattle.proximity.specs.Asked.{askedPosition, askedProximity}

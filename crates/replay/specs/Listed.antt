@@ -8,7 +8,7 @@ use lib.ListN.{length, getD, take, drop}
 use lib.Ieee
 use lib.Ieee.{binary64}
 use Rattle.lists.specs.Outcome.{Outcome, Gives, numberOf, roomOf}
-use Rattle.numbers.specs.Word.{signedOf}
+use Rattle.patterns.specs.Word.{signedOf}
 use Rattle.numbers.specs.Time.{spanBetween, instantAfter, secondsOf, spanOfSeconds, instantOfSeconds, spanOutcome, instantOutcome}
 use Rattle.replay.specs.Line.{lineOf}
 use Rattle.replay.specs.declared.calls.Verdict.{Verdict}

@@ -2,8 +2,8 @@
 use crate::list;
 use crate::list::Answer;
 use crate::list::Line;
-use exports::times;
-use numbers::word;
+use number_exports::times;
+use patterns::word;
 ghost use mathlib.Core.Path.{_≡_};
 ghost use Rattle.lists.specs.Outcome.{Handed};
 ghost use Rattle.replay.specs.Listed.{outcomeOf, asListed, verdictOf};

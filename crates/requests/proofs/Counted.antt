@@ -9,7 +9,7 @@ use lib.Dec.{leb, eqb}
 use lib.ListN.{length, length-map}
 use Rattle.lists.specs.Listed.{every}
 use Rattle.shapes.specs.Leg.{isRising}
-use Rattle.shapes.specs.declared.domain.Examined.the-variants.{Refused}
+use Rattle.limits.specs.declared.domain.Examined.the-variants.{Refused}
 use Rattle.shapes.specs.declared.profile.CircularProfile.{CircularProfile}
 use Rattle.shapes.specs.declared.waypoint.Leg.{Leg}
 use Rattle.shapes.specs.declared.waypoint.Waypoint.{Waypoint}

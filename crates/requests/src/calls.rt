@@ -3,7 +3,7 @@
 use crate::fields;
 use crate::table;
 use lists::words;
-use plans::calls;
+use planning::calls;
 use streams::bits;
 use streams::format;
 ghost use mathlib.Core.Path.{_≡_};

@@ -1,6 +1,6 @@
 // Fields of a stream as the numbers that they stand for (docs/RULES.md, 14.14 and 14.15).
 use numbers::time::TimePoint;
-use numbers::word;
+use patterns::word;
 use shapes::profile::CircularProfile;
 use shapes::waypoint::Leg;
 use shapes::waypoint::Waypoint;

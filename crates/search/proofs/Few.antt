@@ -10,8 +10,8 @@ use lib.Ieee.{Float}
 use lib.ListN.{length}
 use Rattle.numbers.specs.declared.time.TimePoint.{TimePoint}
 use Rattle.shapes.specs.Distance.{criticalDistanceSquared}
-use Rattle.shapes.specs.declared.domain.Examined.{Examined}
-use Rattle.shapes.specs.declared.domain.Examined.the-variants as X
+use Rattle.limits.specs.declared.domain.Examined.{Examined}
+use Rattle.limits.specs.declared.domain.Examined.the-variants as X
 use Rattle.shapes.specs.declared.profile.CircularProfile.{CircularProfile}
 use Rattle.shapes.specs.declared.waypoint.Leg.{Leg}
 use Rattle.shapes.specs.declared.waypoint.Waypoint.{Waypoint}
@@ -21,7 +21,7 @@ use Rattle.obstacles.specs.Examined.{legsInAll, isFew, agentExamined}
 use Rattle.obstacles.proofs.Shaped.{shaped-few, few-obstacles, few-legs, fine-shaped}
 use Rattle.arrivals.specs.Search.{Answered, legsIn, moving}
 use Rattle.arrivals.proofs.Theorems.{at-most, fewer}
-use Rattle.search.specs.Watched.{viewAt, watchedLegs, watchedAll, arrivalsAt}
+use Rattle.nearing.specs.Watched.{viewAt, watchedLegs, watchedAll, arrivalsAt}
 use Rattle.search.specs.Asked.{askedArrivals}
 
 -- Every leg is watched,

@@ -1,4 +1,3 @@
-mod Walking
 mod Sweeping
 mod Keeping
 mod Wiping

@@ -23,7 +23,7 @@ use Rattle.arrivals.specs.Search.{found, swept, adjust, next, soonest, sweep}
 use Rattle.arrivals.specs.declared.next.Next.{Next}
 use Rattle.arrivals.specs.declared.turn.Adjustment.{Adjustment}
 use Rattle.arrivals.specs.declared.turn.Swept.the-variants as W
-use Rattle.search.specs.Watched.{Watched, viewAt, watchedLegs, watchedOf, watchedAll}
+use Rattle.nearing.specs.Watched.{Watched, viewAt, watchedLegs, watchedOf, watchedAll}
 
 -- The legs of obstacle o of a table, up to its last waypoint, are the obstacle's; its box plays no part (RULES 12.1).
 pub obstacle-watched : (p : CircularProfile) (lent : Lent) (boxes : ℕ → BoundingBox) (o end : ℕ) →

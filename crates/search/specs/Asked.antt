@@ -1,14 +1,14 @@
 -- What the call for arrival times alone answers: the table and the waypoint are examined first (RULES 5.1 to 5.3). It needs no
 -- direction, so an agent that stands is fine.
 -- Assumes nothing.
-use Rattle.shapes.specs.declared.domain.Examined.{Examined}
-use Rattle.shapes.specs.declared.domain.Examined.the-variants as X
+use Rattle.limits.specs.declared.domain.Examined.{Examined}
+use Rattle.limits.specs.declared.domain.Examined.the-variants as X
 use Rattle.shapes.specs.declared.profile.CircularProfile.{CircularProfile}
 use Rattle.shapes.specs.declared.waypoint.Waypoint.{Waypoint}
 use Rattle.obstacles.specs.Lent.{Lent, obstaclesOf}
 use Rattle.obstacles.specs.Examined.{agentExamined}
 use Rattle.arrivals.specs.Search.{Answer, Refused}
-use Rattle.search.specs.Watched.{arrivalsAt}
+use Rattle.nearing.specs.Watched.{arrivalsAt}
 
 unfoldable pub askedArrivals : CircularProfile → Waypoint → Lent → Answer
 askedArrivals p g lent = examined (agentExamined p (record { start = g; end = g }) lent)

@@ -1,5 +1,3 @@
-pub mod Watched
-pub mod Table
 pub mod Listing
 pub mod Asked
 pub mod Words

@@ -5,7 +5,7 @@ use mathlib.Core.List.{List, _∷_, map}
 use lib.IntN.{ℤ}
 use lib.ListN.{length, take}
 use Rattle.lists.specs.Outcome.{Outcome, Gives, Refuses}
-use Rattle.numbers.specs.Word.{wordOf}
+use Rattle.patterns.specs.Word.{wordOf}
 use Rattle.arrivals.specs.Search.{Answer, Answered, Refused, Unfinished}
 use Rattle.search.specs.Listing.{numbersOf}
 use Rattle.search.specs.declared.arrival_times.Arrivals.{Arrivals}

@@ -1,5 +1,5 @@
 // The safe arrival times at a place: `compute_safe_arrival_times` of the Rust (docs/RULES.md, 12.3 to 12.18).
-use crate::sweep;
+use crate::turn;
 use arrivals::turn::Turn;
 use examining::examine;
 use numbers::time::TimePoint;
@@ -10,7 +10,7 @@ ghost use Prim.Native.Nat.{_+_, _≤_};
 ghost use lib.ListN.{set};
 ghost use Rattle.obstacles.specs.Lent.{lentOf, obstaclesOf};
 ghost use Rattle.arrivals.specs.Search.{legsIn, moving};
-ghost use Rattle.search.specs.Watched.{watchedAll, arrivalsAt, arrivalsAmong};
+ghost use Rattle.nearing.specs.Watched.{watchedAll, arrivalsAt, arrivalsAmong};
 ghost use Rattle.search.specs.Listing.{Stored, Told, wipedTimes};
 
 // How many times are listed, and by how many sweeps; or a refusal and its number.
@@ -59,7 +59,7 @@ fn search_times(
     let mut listed = 0;
     let mut sweeps = 0;
     loop {
-        let turn = sweep::turn_from(p, place, starts, numbers, times, xs, ys, candidate);
+        let turn = turn::turn_from(p, place, starts, numbers, times, xs, ys, candidate);
         match turn {
             Turn::Ends => return Arrivals::Listed(listed, sweeps + 1),
             Turn::Lists => {

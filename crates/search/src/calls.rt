@@ -2,7 +2,7 @@
 use crate::arrival_times;
 use crate::arrival_times::Arrivals;
 use examining::examine;
-use shapes::domain::Examined;
+use limits::domain::Examined;
 use shapes::profile::CircularProfile;
 use shapes::waypoint::Leg;
 use shapes::waypoint::Waypoint;

@@ -9,14 +9,14 @@ use native.Mathlib.Omega.{arith}
 use lib.Signed.{ltZ, ≤ℤ-refl}
 use Rattle.numbers.specs.declared.time.TimePoint.{TimePoint}
 use Rattle.numbers.proofs.Integers.{at-most→not-below}
-use Rattle.shapes.specs.Domain.{isLeg, isProfile}
+use Rattle.limits.specs.Domain.{isLeg, isProfile}
 use Rattle.shapes.specs.Leg.{isBackward}
-use Rattle.shapes.specs.declared.domain.Examined.{Examined}
-use Rattle.shapes.specs.declared.domain.Examined.the-variants as X
+use Rattle.limits.specs.declared.domain.Examined.{Examined}
+use Rattle.limits.specs.declared.domain.Examined.the-variants as X
 use Rattle.shapes.specs.declared.profile.CircularProfile.{CircularProfile}
 use Rattle.shapes.specs.declared.waypoint.Leg.{Leg}
 use Rattle.shapes.specs.declared.waypoint.Waypoint.{Waypoint}
-use Rattle.shapes.proofs.Limits.{leg-start}
+use Rattle.limits.proofs.Limits.{leg-start}
 use Rattle.obstacles.specs.Lent.{Lent, obstaclesOf}
 use Rattle.obstacles.specs.Examined.{isShaped, areAllowed, agentExamined}
 use Rattle.obstacles.proofs.Accepted.{accepted}
@@ -25,7 +25,7 @@ use Rattle.arrivals.specs.Sweeps as S
 use Rattle.arrivals.specs.Sweeps.{Stuck}
 use Rattle.arrivals.proofs.Lists.{all-map}
 use Rattle.arrivals.proofs.Theorems as Theorems
-use Rattle.search.specs.Watched.{viewAt, arrivalsAt}
+use Rattle.nearing.specs.Watched.{viewAt, arrivalsAt}
 use Rattle.search.specs.Asked.{askedArrivals}
 use Rattle.search.proofs.Few.{legs-watched}
 use Rattle.search_claims.specs.DemandThree.{Source, Refusal, by-numbers, by-shape, by-creep, by-stuck}

@@ -21,13 +21,13 @@ use Rattle.numbers.proofs.Integers.{below→at-most, at-most-trans}
 use Rattle.numbers.proofs.Order.{chosen-has}
 use Rattle.numbers.proofs.Reach.{both}
 use Rattle.shapes.specs.Distance.{criticalDistanceSquared}
-use Rattle.shapes.specs.Domain.{isTime, isLimit, isWaypoint, isLeg, isProfile}
+use Rattle.limits.specs.Domain.{isTime, isLimit, isWaypoint, isLeg, isProfile}
 use Rattle.shapes.specs.Leg.{isRising}
 use Rattle.shapes.specs.declared.profile.CircularProfile.{CircularProfile}
 use Rattle.shapes.specs.declared.waypoint.Leg.{Leg}
 use Rattle.shapes.specs.declared.waypoint.Waypoint.{Waypoint}
-use Rattle.shapes.proofs.Limits.{leg-start, leg-end, waypoint-time, waypoint-x, waypoint-y, time-not-below, time-at-most}
-use Rattle.shapes.proofs.Limits.{critical-squared-limit}
+use Rattle.limits.proofs.Limits.{leg-start, leg-end, waypoint-time, waypoint-x, waypoint-y, time-not-below, time-at-most}
+use Rattle.limits.proofs.Limits.{critical-squared-limit}
 use Rattle.proximity.specs.Range.{rangeStart, rangeEnd}
 use Rattle.proximity.specs.declared.detect.Proximity.the-variants as P
 use Rattle.proximity.proofs.Holding.{starts, ends}
@@ -37,7 +37,7 @@ use Rattle.obstacles.specs.Obstacle.{Obstacle, legsFrom, legsOf}
 use Rattle.obstacles.proofs.Accepted.{isDriven, isFit}
 use Rattle.arrivals.specs.Sweeps.{All, Early, Fair, Joined, Ruled, Refuses}
 use Rattle.arrivals.proofs.Lists.{all-of}
-use Rattle.search.specs.Watched.{Watched, watched, standing, nearOf, viewAt, watchedLegs, watchedAll}
+use Rattle.nearing.specs.Watched.{Watched, watched, standing, nearOf, viewAt, watchedLegs, watchedAll}
 
 -- ---- Any leg.
 

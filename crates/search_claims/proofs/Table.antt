@@ -19,7 +19,7 @@ use Rattle.arrivals.specs.Search as Search
 use Rattle.arrivals.specs.Search.{moving}
 use Rattle.arrivals.specs.Sweeps as S
 use Rattle.arrivals.specs.Sweeps.{exitOf, exitsOf, finishOf, allExits, allFinishes}
-use Rattle.search.specs.Watched.{Watched, watched, nearOf, viewAt, watchedLegs, watchedOf, watchedAll}
+use Rattle.nearing.specs.Watched.{Watched, watched, nearOf, viewAt, watchedLegs, watchedOf, watchedAll}
 use Rattle.search_claims.specs.DemandThree.{oneIn, trajectoriesIn, lastOf, Source, at-asked, at-exit, at-finish}
 
 -- ---- Counts.

@@ -8,7 +8,7 @@ use mathlib.Core.List.{List, [], _∷_, List·Memᴰ}
 use lib.Signed.{_<ℤ_}
 use Rattle.numbers.specs.declared.time.TimePoint.{TimePoint}
 use Rattle.shapes.specs.Distance.{criticalDistanceSquared}
-use Rattle.shapes.specs.declared.domain.Examined.the-variants as X
+use Rattle.limits.specs.declared.domain.Examined.the-variants as X
 use Rattle.shapes.specs.declared.profile.CircularProfile.{CircularProfile}
 use Rattle.shapes.specs.declared.waypoint.Leg.{Leg}
 use Rattle.shapes.specs.declared.waypoint.Waypoint.{Waypoint}
@@ -18,7 +18,7 @@ use Rattle.obstacles.specs.Lent.{Lent, obstaclesOf}
 use Rattle.obstacles.specs.Examined.{legsInAll, agentExamined}
 use Rattle.arrivals.specs.Search.{Answered, Refused, Unfinished}
 use Rattle.arrivals.specs.Sweeps.{All, Rising, Then, Stuck, Gives}
-use Rattle.search.specs.Watched.{Watched, nearOf, viewAt, watchedAll}
+use Rattle.nearing.specs.Watched.{Watched, nearOf, viewAt, watchedAll}
 use Rattle.search.specs.Asked.{askedArrivals}
 
 -- O: the obstacles with a trajectory, which are those with a waypoint; L is `legsInAll` (RULES 3.6, 12.19).

@@ -1,8 +1,8 @@
 -- What the call for a segment answers: the table and the agent are examined first (RULES 5.1 to 5.4).
 -- Assumes nothing.
 use Rattle.shapes.specs.Box.{boxOfLeg}
-use Rattle.shapes.specs.declared.domain.Examined.{Examined}
-use Rattle.shapes.specs.declared.domain.Examined.the-variants as X
+use Rattle.limits.specs.declared.domain.Examined.{Examined}
+use Rattle.limits.specs.declared.domain.Examined.the-variants as X
 use Rattle.shapes.specs.declared.profile.CircularProfile.{CircularProfile}
 use Rattle.shapes.specs.declared.waypoint.Leg.{Leg}
 use Rattle.conflicts.specs.declared.conflict.Verdict.{Verdict}

@@ -4,7 +4,7 @@ use Prim.Native.Nat.{ℕ}
 use mathlib.Core.Path.{_≡_, refl}
 use mathlib.Core.List.{List, [], _∷_}
 use Rattle.lists.specs.Listed.{listed}
-use Rattle.numbers.specs.Word.{signedOf}
+use Rattle.patterns.specs.Word.{signedOf}
 use Rattle.texts.specs.Letters.{bytesOf}
 use Rattle.texts.specs.Numerals.{glyph, decimalBy, decimalOf, signedText, hexBy, hexOf, countField, timeField, bitsField}
 use Rattle.wording.specs.Lines.{line, okLine, pathLine, moveLine, waitLine, refusedLine}

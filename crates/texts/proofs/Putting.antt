@@ -110,10 +110,6 @@ module _ {xs room left : List ℕ} {at r : ℕ} (p : Put xs room at left r) wher
   rest-place ys =
       rw (put-kept, p .place, reached-append, length-append)
 
-pub put-none : (room : List ℕ) (at : ℕ) → at ≤ length room + 1 → Put [] room at room at
-unfolding written
-put-none room at h = record { room = refl; place = sym (reached-none (length room) at h) }
-
 pub put-both : {xs ys room left left' : List ℕ} {at r r' : ℕ} →
     Put xs room at left r → Put ys left r left' r' → Put (xs ++ ys) room at left' r'
 put-both {xs} {ys} p q = record { room = q .room ∙ rest-room p ys; place = q .place ∙ rest-place p ys }

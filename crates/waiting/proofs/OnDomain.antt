@@ -14,19 +14,19 @@ use Rattle.numbers.specs.declared.time.Span.the-variants as P
 use Rattle.numbers.specs.declared.time.Instant.{Instant}
 use Rattle.numbers.specs.declared.time.Instant.the-variants as I
 use Rattle.numbers.proofs.Answers.{instant-made}
-use Rattle.shapes.specs.Domain.{isPlace, isLimit}
+use Rattle.limits.specs.Domain.{isPlace, isLimit}
 use Rattle.shapes.specs.Vector.{difference}
 use Rattle.shapes.specs.declared.vector.Vector.{Vector}
 use Rattle.shapes.specs.declared.waypoint.Leg.{Leg}
-use Rattle.shapes.proofs.Limits.{time-in-reach}
-use Rattle.shapes.proofs.Vectors.{Spans}
-use Rattle.lines.specs.Norm.{directionOf}
+use Rattle.limits.proofs.Limits.{time-in-reach}
+use Rattle.limits.proofs.Vectors.{Spans}
+use Rattle.courses.specs.Norm.{directionOf}
 use Rattle.lines.specs.NearLine.{nearLine}
 use Rattle.lines.specs.Stationary.{stationaryProximity}
-use Rattle.lines.specs.declared.course.Course.{Course}
-use Rattle.lines.specs.declared.course.Run.{Run}
-use Rattle.lines.specs.declared.norm.Direction.{Direction}
-use Rattle.lines.specs.declared.norm.Direction.the-variants as D
+use Rattle.courses.specs.declared.course.Course.{Course}
+use Rattle.courses.specs.declared.course.Run.{Run}
+use Rattle.courses.specs.declared.norm.Direction.{Direction}
+use Rattle.courses.specs.declared.norm.Direction.the-variants as D
 use Rattle.lines.specs.declared.stationary.Stay.{Stay}
 use Rattle.lines.specs.declared.stationary.Stay.the-variants as S
 use Rattle.lines.proofs.OnDomain.{Steady, Charted, Directed, Answered, steepest}

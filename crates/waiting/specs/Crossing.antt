@@ -8,12 +8,12 @@ use Rattle.floats.specs.Size.{nought}
 use Rattle.numbers.specs.Time.{instantAfterSeconds}
 use Rattle.shapes.specs.Vector.{difference}
 use Rattle.shapes.specs.declared.vector.Vector.{Vector}
-use Rattle.lines.specs.Norm.{directionOf}
+use Rattle.courses.specs.Norm.{directionOf}
 use Rattle.lines.specs.NearLine.{nearLine}
-use Rattle.lines.specs.declared.course.Course.{Course}
-use Rattle.lines.specs.declared.course.Run.{Run}
-use Rattle.lines.specs.declared.norm.Direction.{Direction}
-use Rattle.lines.specs.declared.norm.Direction.the-variants as D
+use Rattle.courses.specs.declared.course.Course.{Course}
+use Rattle.courses.specs.declared.course.Run.{Run}
+use Rattle.courses.specs.declared.norm.Direction.{Direction}
+use Rattle.courses.specs.declared.norm.Direction.the-variants as D
 use Rattle.waits.specs.declared.hint.Wait.{Wait}
 use Rattle.waits.specs.declared.hint.Wait.the-variants.{At, Nothing, Refused}
 use Rattle.waiting.specs.Parts.{staying, reaching, agentAfter}

@@ -5,8 +5,8 @@ use lib.Ieee
 use lib.Ieee.{Float}
 use Rattle.floats.specs.Size.{nought}
 use Rattle.lines.specs.Stationary.{stationaryProximity}
-use Rattle.lines.specs.declared.course.Course.{Course}
-use Rattle.lines.specs.declared.course.Run.{Run}
+use Rattle.courses.specs.declared.course.Course.{Course}
+use Rattle.courses.specs.declared.course.Run.{Run}
 use Rattle.waits.specs.declared.hint.Wait.{Wait}
 use Rattle.waits.specs.declared.hint.Wait.the-variants.{At, Nothing}
 use Rattle.waiting.specs.Parts.{staying, agentAfter}

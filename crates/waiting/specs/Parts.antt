@@ -6,7 +6,7 @@ use Rattle.numbers.specs.declared.time.Instant.{Instant}
 use Rattle.numbers.specs.declared.time.Instant.the-variants as I
 use Rattle.shapes.specs.Vector.{sum, scaled}
 use Rattle.shapes.specs.declared.vector.Vector.{Vector}
-use Rattle.lines.specs.declared.course.Course.{Course}
+use Rattle.courses.specs.declared.course.Course.{Course}
 use Rattle.lines.specs.declared.stationary.Stay.{Stay}
 use Rattle.lines.specs.declared.stationary.Stay.the-variants as S
 use Rattle.waits.specs.declared.hint.Wait.{Wait}

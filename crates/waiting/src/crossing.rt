@@ -1,9 +1,9 @@
 // Waiting for a leg that crosses the agent's way (docs/RULES.md, 10.9 to 10.13).
-use lines::course::Course;
-use lines::course::Run;
+use courses::course::Course;
+use courses::course::Run;
+use courses::norm;
+use courses::norm::Direction;
 use lines::near_line;
-use lines::norm;
-use lines::norm::Direction;
 use lines::stationary::Stay;
 use numbers::time::Instant;
 use waits::hint::Wait;

@@ -1,6 +1,6 @@
 // Waiting for a leg that comes toward the agent and vanishes at its end (docs/RULES.md, 10.28).
-use lines::course::Course;
-use lines::course::Run;
+use courses::course::Course;
+use courses::course::Run;
 use lines::stationary;
 use lines::stationary::Stay;
 use waits::hint::Wait;

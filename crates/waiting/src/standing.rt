@@ -1,6 +1,6 @@
 // Waiting for a leg that stands in the agent's way, or nearly so (docs/RULES.md, 10.24 to 10.27).
-use lines::course::Course;
-use lines::course::Run;
+use courses::course::Course;
+use courses::course::Run;
 use lines::stationary;
 use lines::stationary::Stay;
 use waits::hint::Wait;

@@ -1,3 +1,1 @@
 mod Else
-mod Counts
-pub mod Chosen

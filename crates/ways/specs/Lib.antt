@@ -1,4 +1,3 @@
 pub mod Travel
 pub mod Way
 pub mod Tests
-pub mod Roots

@@ -12,7 +12,7 @@ use Rattle.shapes.specs.Leg.{placeOf}
 use Rattle.shapes.specs.Vector.{difference}
 use Rattle.shapes.specs.declared.vector.Vector.{Vector}
 use Rattle.shapes.specs.declared.waypoint.Waypoint.{Waypoint}
-use Rattle.lines.specs.Norm.{normOf}
+use Rattle.courses.specs.Norm.{normOf}
 use Rattle.waits.specs.declared.hint.WaitHint.{WaitHint}
 use Rattle.ways.specs.declared.travel.Reached.{Reached}
 use Rattle.ways.specs.declared.travel.Reached.the-variants as W

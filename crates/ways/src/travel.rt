@@ -1,5 +1,5 @@
 // When the agent is at a place: `make_parent_arrival` of the Rust (docs/RULES.md, 13.3).
-use lines::norm;
+use courses::norm;
 use numbers::time::Instant;
 use root::nearest::Root;
 use shapes::vector::Vector;

@@ -2,8 +2,8 @@
 -- Assumes nothing.
 use mathlib.Core.Path.{ap, _∙_}
 use borrow.Author.Needs.{needs}
-use Rattle.numbers.specs.Word.{wordOf}
-use Rattle.numbers.proofs.ReadBack.{read-back}
+use Rattle.patterns.specs.Word.{wordOf}
+use Rattle.patterns.proofs.ReadBack.{read-back}
 use Rattle.actions.specs.Action.{actionWords}
 use Rattle.actions.proofs.action.put_action.Statement.{statement}
 use Rattle.actions.proofs.action.put_action.Tie as tie

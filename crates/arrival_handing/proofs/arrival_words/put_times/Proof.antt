@@ -7,8 +7,8 @@ use native.Mathlib.Omega.{arith}
 use borrow.Author.Needs.{needs}
 use lib.IntN.{ℤ, pos}
 use lib.ListN.{length, take, getD, length-set}
-use Rattle.numbers.specs.Word.{wordOf}
-use Rattle.numbers.proofs.ReadBack.{read-back}
+use Rattle.patterns.specs.Word.{wordOf}
+use Rattle.patterns.proofs.ReadBack.{read-back}
 use Rattle.search.specs.Words.{wordsOf}
 use Rattle.arrival_handing.proofs.ArrivalWords.{times-next}
 use Rattle.arrival_handing.proofs.arrival_words.put_times.Statement.{statement}

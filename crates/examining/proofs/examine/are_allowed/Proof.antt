@@ -9,7 +9,7 @@ use borrow.Author.Needs.{needs}
 use lib.ListN.{length}
 use Rattle.lists.specs.Listed.{listedTo, every}
 use Rattle.lists.proofs.Listed.{every-done, every-fails, every-passes}
-use Rattle.shapes.specs.Domain.{isProfile, isLimit, isWaypoint}
+use Rattle.limits.specs.Domain.{isProfile, isLimit, isWaypoint}
 use Rattle.obstacles.specs.Obstacle.{Obstacle}
 use Rattle.obstacles.specs.Lent.{lentOf, obstacleIn, boxOf, obstaclesWith, obstaclesOf}
 use Rattle.obstacles.specs.Examined.{isAllowed, areAllowed}

@@ -2,7 +2,7 @@
 -- Assumes nothing.
 use mathlib.Core.Path.{ap, _∙_}
 use borrow.Author.Needs.{needs}
-use Rattle.shapes.specs.Domain.{isProfile, isLimit}
+use Rattle.limits.specs.Domain.{isProfile, isLimit}
 use Rattle.floats.proofs.Tests.{found-true, found-false}
 use Rattle.examining.proofs.examine.are_numbers.Statement.{statement}
 use Rattle.examining.proofs.examine.are_numbers.Tie as tie

@@ -7,7 +7,7 @@ use native.Mathlib.Omega.{arith}
 use borrow.Author.Needs.{needs}
 use Rattle.lists.specs.Listed.{listedTo, every}
 use Rattle.lists.proofs.Listed.{every-done, every-fails, every-passes}
-use Rattle.shapes.specs.Domain.{isWaypoint}
+use Rattle.limits.specs.Domain.{isWaypoint}
 use Rattle.shapes.specs.declared.waypoint.Waypoint.{Waypoint}
 use Rattle.obstacles.specs.Lent.{waypointIn}
 use Rattle.floats.proofs.Tests.{found-true, found-false}

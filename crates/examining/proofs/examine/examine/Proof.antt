@@ -3,7 +3,7 @@
 use mathlib.Core.Path.{_≡_, sym, _∙_}
 use mathlib.Core.Bool.{true}
 use borrow.Author.Needs.{needs}
-use Rattle.shapes.specs.Domain.{isProfile, isLeg}
+use Rattle.limits.specs.Domain.{isProfile, isLeg}
 use Rattle.obstacles.specs.Lent.{lentOf}
 use Rattle.obstacles.specs.Examined.{isShaped, agentExamined}
 use Rattle.floats.proofs.Tests.{found-true, found-false}

@@ -2,8 +2,8 @@
 -- Assumes nothing.
 use mathlib.Core.Path.{sym, ap}
 use borrow.Author.Needs.{needs}
-use Rattle.numbers.specs.Word.{wordOf}
-use Rattle.numbers.proofs.ReadBack.{read-back}
+use Rattle.patterns.specs.Word.{wordOf}
+use Rattle.patterns.proofs.ReadBack.{read-back}
 use Rattle.handing.proofs.proximity_words.give_proximity.Statement.{statement}
 use Rattle.handing.proofs.proximity_words.give_proximity.Tie as tie
 

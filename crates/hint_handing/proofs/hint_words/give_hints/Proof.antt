@@ -10,7 +10,7 @@ use lib.ListN.{length, take, drop, replicate, length-set, length-take, length-ma
 use lib.Seq.{length-take-le, getD-take, take-length}
 use Rattle.ranking.specs.declared.order.RankedHint.{RankedHint}
 use Rattle.ranking.specs.Hints.{held}
-use Rattle.ranking.specs.Lent.{hintWords, allWords, hintsOutcome}
+use Rattle.lending.specs.Lent.{hintWords, allWords, hintsOutcome}
 use Rattle.hint_handing.proofs.HintWords.{words-begin, words-next}
 use Rattle.hint_handing.proofs.hint_words.give_hints.Statement.{statement}
 use Rattle.hint_handing.proofs.hint_words.give_hints.Tie as tie

@@ -4,9 +4,9 @@ use mathlib.Core.Path.{ap, _∙_}
 use native.Mathlib.Omega.{arith}
 use borrow.Author.Needs.{needs}
 use lib.ListN.{length-set}
-use Rattle.numbers.specs.Word.{wordOf}
-use Rattle.numbers.proofs.ReadBack.{read-back}
-use Rattle.ranking.specs.Lent.{hintWords}
+use Rattle.patterns.specs.Word.{wordOf}
+use Rattle.patterns.proofs.ReadBack.{read-back}
+use Rattle.lending.specs.Lent.{hintWords}
 use Rattle.hint_handing.proofs.HintWords.{six-stored}
 use Rattle.hint_handing.proofs.hint_words.put_hint.Statement.{statement}
 use Rattle.hint_handing.proofs.hint_words.put_hint.Tie as tie

@@ -5,7 +5,7 @@ use borrow.Author.Needs.{needs}
 use Rattle.root.specs.declared.nearest.Root.the-variants.{Of}
 use Rattle.shapes.specs.Leg.{placeOf}
 use Rattle.shapes.specs.Vector.{difference}
-use Rattle.lines.specs.Norm.{normOf}
+use Rattle.courses.specs.Norm.{normOf}
 use Rattle.hints.specs.Contour.{scaleOf}
 use Rattle.hints.proofs.contour.scale_of.Statement.{statement}
 use Rattle.hints.proofs.contour.scale_of.Tie as tie

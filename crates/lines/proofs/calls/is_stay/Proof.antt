@@ -3,7 +3,7 @@
 use mathlib.Core.Path.{_≡_}
 use mathlib.Core.Bool.{true}
 use borrow.Author.Needs.{needs}
-use Rattle.shapes.specs.Domain.{isPlace, isSpeed}
+use Rattle.limits.specs.Domain.{isPlace, isSpeed}
 use Rattle.lines.specs.Asked.{isStay}
 use Rattle.floats.proofs.Tests.{found-true, found-false}
 use Rattle.lines.proofs.calls.is_stay.Statement.{statement}

@@ -11,7 +11,7 @@ use Rattle.floats.specs.Domain.{still}
 use Rattle.root.specs.Root.{rootOf}
 use Rattle.root.specs.declared.nearest.Root.{Root}
 use Rattle.lines.specs.Stationary.{stationaryQuadratic, stationaryProximity}
-use Rattle.proximity.specs.declared.quadratic.Quadratic.{Quadratic}
+use Rattle.motions.specs.declared.quadratic.Quadratic.{Quadratic}
 use Rattle.floats.proofs.Tests.{found-true, found-false}
 use Rattle.lines.proofs.stationary.compute_stationary_proximity.Statement.{statement}
 use Rattle.lines.proofs.stationary.compute_stationary_proximity.Tie as tie

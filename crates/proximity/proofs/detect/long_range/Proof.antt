@@ -3,9 +3,9 @@
 use mathlib.Core.Path.{_≡_, sym, _∙_}
 use borrow.Author.Needs.{needs}
 use lib.Ieee.{ofBits}
-use Rattle.proximity.specs.Quadratic.{meetingFrom}
+use Rattle.motions.specs.Quadratic.{meetingFrom}
 use Rattle.proximity.specs.Proximity.{longRange}
-use Rattle.proximity.specs.declared.quadratic.Meeting.the-variants.{Of}
+use Rattle.motions.specs.declared.quadratic.Meeting.the-variants.{Of}
 use Rattle.proximity.proofs.detect.long_range.Statement.{statement}
 use Rattle.proximity.proofs.detect.long_range.Tie as tie
 

@@ -2,9 +2,9 @@
 -- Assumes nothing.
 use mathlib.Core.Path.{_≡_, sym, _∙_}
 use borrow.Author.Needs.{needs}
-use Rattle.proximity.specs.Motion.{motionAt}
+use Rattle.motions.specs.Motion.{motionAt}
 use Rattle.proximity.specs.Range.{nearAt}
-use Rattle.proximity.specs.declared.motion.Motion.the-variants.{At, Outside}
+use Rattle.motions.specs.declared.motion.Motion.the-variants.{At, Outside}
 use Rattle.proximity.proofs.Else.{not-strayed}
 use Rattle.proximity.proofs.detect.near_at.Statement.{statement}
 use Rattle.proximity.proofs.detect.near_at.Tie as tie

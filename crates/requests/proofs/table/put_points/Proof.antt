@@ -6,7 +6,7 @@ use Prim.Native.Nat.{ℕ, _+_, _-_, _*_, _≤_, _<_}
 use native.Mathlib.Omega.{arith}
 use lib.ListN.{length, take, length-set}
 use lib.IntN.{pos}
-use Rattle.numbers.proofs.ReadBack.{read, read-back}
+use Rattle.patterns.proofs.ReadBack.{read, read-back}
 use Rattle.shapes.specs.declared.waypoint.Waypoint.{Waypoint}
 use Rattle.streams.specs.Bits.{numberAt}
 use Rattle.streams.specs.Format.{pointAt, pointsAt}

@@ -6,7 +6,7 @@ use native.Mathlib.Omega.{arith}
 use borrow.Author.Needs.{needs}
 use Rattle.obstacles.specs.Lent.{lentOf, obstaclesOf}
 use Rattle.arrivals.specs.Search.{legsIn, moving}
-use Rattle.search.specs.Watched.{viewAt, watchedAll, arrivalsAt}
+use Rattle.nearing.specs.Watched.{viewAt, watchedAll, arrivalsAt}
 use Rattle.search.proofs.Keeping.{Kept, kept-start, kept-few, kept-room, kept-goes, kept-lists-goes}
 use Rattle.search.proofs.Keeping.{kept-ends, kept-lists, kept-refused}
 use Rattle.search.proofs.arrival_times.search_times.Statement.{statement}

@@ -5,7 +5,7 @@ use borrow.Author.Needs.{needs}
 use Rattle.floats.proofs.Tests.{found-true, found-false}
 use Rattle.obstacles.specs.Lent.{Lent, lentOf, obstaclesOf}
 use Rattle.obstacles.specs.Examined.{isFew}
-use Rattle.search.specs.Watched.{arrivalsAmong}
+use Rattle.nearing.specs.Watched.{arrivalsAmong}
 use Rattle.search.proofs.Few.{few-watched}
 use Rattle.search.proofs.Telling.{told-refused}
 use Rattle.search.proofs.arrival_times.times_among.Statement.{statement}

@@ -13,7 +13,7 @@ use Rattle.arrivals.specs.Search.{swept, adjust, sweep}
 use Rattle.arrivals.specs.declared.turn.Adjustment.{Adjustment}
 use Rattle.arrivals.specs.declared.turn.Adjustment.the-variants as A
 use Rattle.arrivals.specs.declared.turn.Swept.the-variants as W
-use Rattle.search.specs.Watched.{viewAt, watchedOf, watchedAll}
+use Rattle.nearing.specs.Watched.{viewAt, watchedOf, watchedAll}
 use Rattle.search.proofs.Sweeping.{obstacle-watched, sweep-done, sweep-on}
 use Rattle.search.proofs.sweep.sweep_from.Statement.{statement}
 use Rattle.search.proofs.sweep.sweep_from.Tie as tie

@@ -3,7 +3,7 @@
 use mathlib.Core.Path.{_≡_, sym}
 use borrow.Author.Needs.{needs}
 use Rattle.shapes.specs.Vector.{difference}
-use Rattle.lines.specs.Norm.{directionOf}
+use Rattle.courses.specs.Norm.{directionOf}
 use Rattle.waiting.specs.Parts.{staying}
 use Rattle.waiting.specs.Crossing.{beforeCrossing, besideLine}
 use Rattle.waiting.proofs.crossing.beside_line.Statement.{statement}

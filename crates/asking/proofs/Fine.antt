@@ -1,0 +1,32 @@
+-- An input that is found fine, with all that is asked of it, is fine in each part (RULES 5.1).
+-- Assumes nothing.
+use Prim.Native.Nat.{ℕ}
+use mathlib.Core.Path.{_≡_}
+use mathlib.Core.Bool.{Bool, true, false, cond}
+use lib.Dec.{eqb}
+use Rattle.limits.specs.declared.domain.Examined.{Examined}
+use Rattle.limits.specs.declared.domain.Examined.the-variants.{Fine, Refused}
+use Rattle.asking.specs.Beside.{numbered, withNumbers, withLent}
+
+-- A ground for 1 leaves nothing fine.
+numbered-not : (e d : Examined) → numbered e ≡ Fine → d ≡ Fine
+numbered-not Fine d f = cc
+numbered-not (Refused n) d f = by (eqb n 2) f
+  where
+    by : (t : Bool) → cond t (Refused 2) (Refused 1) ≡ Fine → d ≡ Fine
+    by true g = cc
+    by false g = cc
+
+pub numbers-fine : (ok : Bool) (e : Examined) → withNumbers ok e ≡ Fine → e ≡ Fine
+unfolding withNumbers
+numbers-fine true e f = f
+numbers-fine false e f = numbered-not e e f
+
+pub lent-fine : (refused : ℕ) (e : Examined) → withLent refused e ≡ Fine → e ≡ Fine
+unfolding withLent
+lent-fine refused e f = by (eqb refused 0) (eqb refused 2) f
+  where
+    by : (a b : Bool) → cond a e (cond b (Refused 2) (numbered e)) ≡ Fine → e ≡ Fine
+    by true b g = g
+    by false true g = cc
+    by false false g = numbered-not e e g

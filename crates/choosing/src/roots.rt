@@ -1,0 +1,98 @@
+// The hint that the search begins with (docs/RULES.md, 13.8 and 13.9).
+use chains::trial::First;
+use courses::norm;
+use numbers::time::Duration;
+use numbers::time::Span;
+use numbers::time::TimePoint;
+use ranking::ranked_hints::RankedHints;
+use root::nearest::Root;
+use ways::trip::Trip;
+ghost use mathlib.Core.Path.{_≡_};
+ghost use Prim.Native.Nat.{_+_, _≤_, _<_};
+ghost use lib.ListN.{length, drop};
+ghost use Rattle.ranking.specs.Hints.{held};
+ghost use Rattle.choosing.specs.Roots.{goalContour, lateness, below, level, firstRoot};
+
+// A contour, or a refusal and its number.
+pub enum Contour {
+    Of(Duration),
+    Refused(u64),
+}
+
+// How late the agent is that reaches the goal, so far away, a span after its start.
+fn lateness_of(speed: f64, wait: Duration, reach: f64) -> Span
+    ensures { λ r. ⌜ r ≡ lateness speed wait reach ⌝ }
+{
+    if speed > 1e-8 {
+        return Duration::from_secs_f64(wait.as_secs_f64() - reach / speed);
+    }
+    Span::Of(wait)
+}
+
+// The contour of the goal for an arrival time.
+pub fn goal_contour(trip: Trip, arrival: TimePoint) -> Contour
+    ensures { λ r. ⌜ r ≡ goalContour trip arrival ⌝ }
+{
+    let leg = trip.leg;
+    let start = leg.start;
+    let goal = leg.end;
+    let long = norm::norm(goal.place().minus(start.place()));
+    let Root::Of(reach) = long else {
+        return Contour::Refused(1);
+    };
+    let waiting = arrival.since(start.time);
+    let Span::Of(wait) = waiting else {
+        return Contour::Refused(7);
+    };
+    let late = lateness_of(trip.speed, wait, reach);
+    let Span::Of(contour) = late else {
+        return Contour::Refused(7);
+    };
+    Contour::Of(contour)
+}
+
+// How many hints stand in front of the first whose contour is not below this one.
+fn count_below(hints: RankedHints, contour: Duration) -> usize
+    ensures { λ r. ⌜ r ≡ below contour (held hints) ⌝ }
+{
+    let n = hints.len();
+    let mut i = 0;
+    while i < n {
+        let h = hints.all[i];
+        if !h.contour.is_below(contour) {
+            return i;
+        }
+        i += 1;
+    }
+    n
+}
+
+// How many of the hints from `from` on have a contour that is not above this one, before the first that has.
+fn count_level(hints: RankedHints, contour: Duration, from: usize) -> usize
+    requires { ⌜ from ≤ length (held hints) ⌝ }
+    ensures { λ r. ⌜ r ≡ level contour (drop from (held hints)) ⌝ }
+{
+    let n = hints.len();
+    let mut i = from;
+    while i < n {
+        let h = hints.all[i];
+        if contour.is_below(h.contour) {
+            return i - from;
+        }
+        i += 1;
+    }
+    n - from
+}
+
+// The last hint of the first contour that is not below the goal's.
+pub fn first_root(hints: RankedHints, goal: Duration) -> First
+    ensures { λ r. ⌜ r ≡ firstRoot goal (held hints) ⌝ }
+{
+    let n = hints.len();
+    let at = count_below(hints, goal);
+    if n <= at {
+        return First::Missing;
+    }
+    let h = hints.all[at];
+    First::Root(at + count_level(hints, h.contour, at + 1))
+}

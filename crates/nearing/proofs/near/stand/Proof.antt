@@ -1,0 +1,13 @@
+-- `nearing::near::stand` meets its contract: the leg's two times at the place are the definition's.
+-- Assumes nothing.
+use mathlib.Core.Path.{refl}
+use Rattle.nearing.specs.Watched.{standing}
+use Rattle.nearing.proofs.near.stand.Statement.{statement}
+use Rattle.nearing.proofs.near.stand.Tie as tie
+
+returns : tie.Need-returns
+unfolding standing
+returns c = refl
+
+pub stand-spec : {M : Type 1} → statement M
+stand-spec = tie.close (tie.spec returns)

@@ -1,0 +1,45 @@
+// The whole plan: the agent comes as plain numbers, the table of obstacles as lent lists.
+use shapes::profile::CircularProfile;
+use taking::legs;
+ghost use Rattle.obstacles.specs.Lent.{lentOf};
+ghost use Rattle.plans.specs.Asked.{askedPlan};
+ghost use Rattle.plans.specs.Laid.{PlanHanded};
+ghost use Rattle.taking.specs.Plain.{legOf, profileOf};
+
+// The whole plan among the obstacles of a lent table: counts and paths in one room, the actions of all paths in the other.
+#[no_mangle]
+pub extern "C" fn igelbert_linear_paths(
+    footprint: f64,
+    follow: f64,
+    t0: i64,
+    x0: f64,
+    y0: f64,
+    t1: i64,
+    x1: f64,
+    y1: f64,
+    budget: u64,
+    starts: &[usize],
+    numbers: &[f64],
+    times: &[i64],
+    xs: &[f64],
+    ys: &[f64],
+    paths: &mut [u64],
+    actions: &mut [u64],
+) -> u64
+    ensures { λ r. ⌜ PlanHanded (askedPlan (profileOf footprint follow) (legOf t0 x0 y0 t1 x1 y1) budget (lentOf (now (starts .entry)) (now (numbers .entry)) (now (times .entry)) (now (xs .entry)) (now (ys .entry)))) (now (paths .entry)) (now (paths .exit)) (now (actions .entry)) (now (actions .exit)) r ⌝ }
+{
+    let p = CircularProfile { footprint, follow };
+    let agent = legs::leg_of(t0, x0, y0, t1, x1, y1);
+    planning::calls::linear_paths(
+        p,
+        agent,
+        budget,
+        starts,
+        numbers,
+        times,
+        xs,
+        ys,
+        paths,
+        actions,
+    )
+}

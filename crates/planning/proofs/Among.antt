@@ -1,0 +1,101 @@
+-- The arrival times of a plan: among few obstacles a search is not refused for their number, and what it leaves in its list are
+-- all its times (RULES 3.5, 12.18, 12.19).
+-- Assumes nothing.
+use Prim.Native.Nat.{ℕ, suc, _-_, _≤_}
+use mathlib.Core.Path.{_≡_, refl, sym, ap, _∙_}
+use mathlib.Core.Bool.{Bool, true, false, cond, true≢false}
+use mathlib.Core.List.{List, [], _∷_, _++_}
+use native.Mathlib.Omega.{arith}
+use borrow.Author.Tests.{le-ltb, ltb-false}
+use lib.Dec.{ltb}
+use lib.IntN.{ℤ, pos}
+use lib.ListN.{length, take, replicate}
+use lib.Seq.{take-at}
+use Rattle.numbers.specs.declared.time.TimePoint.{TimePoint}
+use Rattle.shapes.specs.declared.profile.CircularProfile.{CircularProfile}
+use Rattle.shapes.specs.declared.waypoint.Waypoint.{Waypoint}
+use Rattle.obstacles.specs.Obstacle.{Obstacle}
+use Rattle.obstacles.specs.Examined.{isFew}
+use Rattle.arrivals.specs.Search as A
+use Rattle.arrivals.specs.Search.{Answer, Answered, Unfinished}
+use Rattle.arrivals.proofs.Theorems.{at-most, fewer}
+use Rattle.nearing.specs.Watched.{viewAt, watchedAll, arrivalsAt, arrivalsAmong}
+use Rattle.search.specs.Listing.{numbersOf, countsIn, timesIn, Told}
+use Rattle.search.specs.declared.arrival_times.Arrivals.{Arrivals}
+use Rattle.search.specs.declared.arrival_times.Arrivals.the-variants as C
+use Rattle.search.proofs.Few.{few-watched}
+use Rattle.plans.specs.Plan.{Plan, Refused, timed, instantsOf}
+
+-- With no more obstacles and legs than the domain allows.
+pub among-few : (p : CircularProfile) (g : Waypoint) (os : List Obstacle) →
+    isFew os ≡ true → arrivalsAmong p g os ≡ arrivalsAt p g os
+unfolding arrivalsAmong
+among-few p g os e = rw e
+
+-- A search that is answered makes at most 289 sweeps, and lists no more times than that (RULES 12.14, 12.19).
+pub few-listed : (p : CircularProfile) (g : Waypoint) (os : List Obstacle) (l : List TimePoint) (n : ℕ) →
+    isFew os ≡ true → arrivalsAt p g os ≡ Answered l n → length l ≤ 289
+unfolding arrivalsAt
+few-listed p g os l n few e =
+    let times = fewer (viewAt g) (watchedAll p os) (g .time) e in
+    let sweeps = at-most (viewAt g) (watchedAll p os) (g .time) e in
+    omega (arith, few-watched p os few)
+
+length-numbers : (l : List TimePoint) → length (numbersOf l) ≡ length l
+unfolding numbersOf
+length-numbers [] = refl
+length-numbers (t ∷ l) = ap suc (length-numbers l)
+
+instants-back : (l : List TimePoint) → instantsOf (numbersOf l) ≡ l
+unfolding instantsOf numbersOf
+instants-back [] = refl
+instants-back (t ∷ l) = ap (λ ts. t ∷ ts) (instants-back l)
+
+module _ {answer : Answer} {lent left : List ℤ} {r : Arrivals} (told : Told answer lent left r) where
+  -- A refusal is the search's own, where there is room for all its times.
+  pub told-refused : {n : ℕ} (go : List TimePoint → ℕ → Plan) → r ≡ C.Refused n →
+      ((l : List TimePoint) (m : ℕ) → answer ≡ Answered l m → length l ≤ length lent) → timed answer go ≡ Refused n
+  unfolding countsIn
+  told-refused {n} go e room = by answer refl (sym e ∙ told .counts)
+    where
+      by : (a : Answer) → answer ≡ a → C.Refused n ≡ countsIn a (length lent) → timed a go ≡ Refused n
+      by (Answered l m) is f = let fits = le-ltb (length lent) (length l) (room l m is) in cc (rw fits at f)
+      by (A.Refused m) is f = cc
+      by Unfinished is f = cc
+
+  -- The times listed stand at the front.
+  module _ {count sweeps : ℕ} (e : r ≡ C.Listed count sweeps) where
+    pub told-few : count ≤ length lent
+    unfolding countsIn
+    told-few = by answer (sym e ∙ told .counts)
+      where
+        fits : (l : List TimePoint) (m : ℕ) (t : Bool) → ltb (length lent) (length l) ≡ t →
+            C.Listed count sweeps ≡ cond t (C.Refused 12) (C.Listed (length l) m) → count ≤ length lent
+        fits l m true b f = absurd (true≢false (cc f))
+        fits l m false b f = let same : count ≡ length l = cc in rw same (ltb-false (length lent) (length l) b)
+
+        by : (a : Answer) → C.Listed count sweeps ≡ countsIn a (length lent) → count ≤ length lent
+        by (Answered l m) f = fits l m (ltb (length lent) (length l)) refl f
+        by (A.Refused m) f = absurd (true≢false (cc f))
+        by Unfinished f = absurd (true≢false (cc f))
+
+    pub told-listed : (go : List TimePoint → ℕ → Plan) → timed answer go ≡ go (instantsOf (take count left)) sweeps
+    unfolding countsIn timesIn
+    told-listed go = by answer (sym e ∙ told .counts) (told .times)
+      where
+        fits : (l : List TimePoint) (m : ℕ) (t : Bool) →
+            C.Listed count sweeps ≡ cond t (C.Refused 12) (C.Listed (length l) m) →
+            left ≡ cond t (replicate (length lent) (pos 0)) (numbersOf l ++ replicate (length lent - length l) (pos 0)) →
+            go l m ≡ go (instantsOf (take count left)) sweeps
+        fits l m true f g = cc
+        fits l m false f g =
+            let same : count ≡ length l = cc in
+            let as-many : sweeps ≡ m = cc in
+            let rest : List ℤ = replicate (length lent - length l) (pos 0) in
+            rw (same, as-many, g, take-at (numbersOf l) rest (length l) (length-numbers l), instants-back l)
+
+        by : (a : Answer) → C.Listed count sweeps ≡ countsIn a (length lent) → left ≡ timesIn a (length lent) →
+            timed a go ≡ go (instantsOf (take count left)) sweeps
+        by (Answered l m) f g = fits l m (ltb (length lent) (length l)) f g
+        by (A.Refused m) f g = cc
+        by Unfinished f g = cc

@@ -1,0 +1,4 @@
+mod Few
+mod Fewer
+mod Keeping
+mod Among

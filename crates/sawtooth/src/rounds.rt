@@ -1,0 +1,103 @@
+// The rounds of a chase: each ends in a hint, where the agent waits (docs/RULES.md, 10.22 and 10.23).
+use chasing::chase::Chase;
+use courses::course::Course;
+use courses::course::Run;
+use numbers::time::Instant;
+use numbers::time::TimePoint;
+use waits::hint::WaitHint;
+use waits::wait_hints::WaitHints;
+ghost use mathlib.Core.Path.{_≡_};
+ghost use Rattle.sawtooth.specs.Rounds.{strideOf, roundOf, roundsFrom};
+
+// Where a round ends: how far along the line, at how many seconds, and whether that is the end of the line.
+pub struct Stride {
+    pub s: f64,
+    pub t: f64,
+    pub ended: bool,
+}
+
+// A round: its hint, and where the next sets out from if there is one; or refusal 7.
+pub enum Round {
+    Next(WaitHint, f64, f64),
+    Last(WaitHint),
+    Strayed,
+}
+
+// From s metres and t seconds the agent catches up with the leg, then waits; it goes no farther than the end of its line.
+fn stride_from(agent: Course, chase: Chase, s: f64, t: f64) -> Stride
+    ensures { λ r. ⌜ r ≡ strideOf agent chase s t ⌝ }
+{
+    let there = chase.ahead + chase.aligned * (t - chase.since);
+    let catching = ((there - s) - chase.gap) / chase.closing;
+    let s1 = s + agent.speed * catching;
+    let t1 = t + (catching + chase.rest);
+    if s1 >= agent.length {
+        return Stride {
+            s: agent.length,
+            t: t1 - (s1 - agent.length) / agent.speed,
+            ended: true,
+        };
+    }
+    Stride {
+        s: s1,
+        t: t1,
+        ended: false,
+    }
+}
+
+fn round_from(agent: Course, leg: Run, chase: Chase, obstacle: usize, s: f64, t: f64) -> Round
+    ensures { λ r. ⌜ r ≡ roundOf agent leg chase obstacle s t ⌝ }
+{
+    let to = stride_from(agent, chase, s, t);
+    let tp = TimePoint::from_secs_f64(to.t);
+    let Instant::At(at) = tp else {
+        return Round::Strayed;
+    };
+    let run = agent.run;
+    let place = run.from.plus(agent.direction.times(to.s));
+    let until = at.min(leg.end);
+    let hint = WaitHint {
+        place,
+        until,
+        obstacle,
+    };
+    if to.ended {
+        return Round::Last(hint);
+    }
+    if !at.is_before(leg.end) {
+        return Round::Last(hint);
+    }
+    Round::Next(hint, to.s, to.t)
+}
+
+// The rounds from s metres and t seconds on. They end, since each stores a hint or is refused.
+pub fn rounds(
+    agent: Course,
+    leg: Run,
+    chase: Chase,
+    obstacle: usize,
+    hints: WaitHints,
+    s: f64,
+    t: f64,
+) -> WaitHints
+    ensures { λ r. ⌜ r ≡ roundsFrom agent leg chase obstacle hints s t ⌝ }
+{
+    let mut found = hints;
+    let mut s1 = s;
+    let mut t1 = t;
+    loop {
+        let turn = round_from(agent, leg, chase, obstacle, s1, t1);
+        match turn {
+            Round::Strayed => return WaitHints::refused_by(7),
+            Round::Last(hint) => return found.with_hint(hint),
+            Round::Next(hint, s2, t2) => {
+                found = found.with_hint(hint);
+                if found.refused != 0 {
+                    return found;
+                }
+                s1 = s2;
+                t1 = t2;
+            }
+        }
+    }
+}
