@@ -6,6 +6,7 @@ use mathlib.Core.List.{List, [], _∷_}
 use lib.ListN.{length, replicate, length-replicate}
 use Rattle.lists.specs.Outcome.{wiped}
 use Rattle.lists.specs.Rows.{withRow, withRows}
+use Rattle.lists.proofs.Filling.{wiped-whole}
 use Rattle.lists.proofs.Fours.{length-rows}
 use Rattle.numbers.specs.declared.time.Duration.{Duration}
 use Rattle.actions.specs.Action.{actionWords, actionRows}
@@ -15,7 +16,7 @@ use Rattle.actions.specs.Laid.{Put, holdOf}
 use Rattle.actions.specs.declared.action.SafeAction.{SafeAction}
 use Rattle.actions.specs.declared.building.Hold.{Hold}
 use Rattle.actions.specs.declared.building.Hold.the-variants as H
-use Rattle.actions.proofs.Rowed.{actions-fours, rows-placed, wiped-all}
+use Rattle.actions.proofs.Rowed.{actions-fours, rows-placed}
 use Rattle.actions.proofs.Known.{actionsOf}
 
 -- One row, and two of them.
@@ -33,7 +34,7 @@ two-rows lent row a b e f = f ∙ ap (λ (room : List ℕ). withRow room (row + 
 pub put-wiped : {lent left : List ℕ} {row : ℕ} (n : ℕ) → left ≡ wiped lent 0 → Put (P.Refused n) lent left row (H.Refused n)
 unfolding holdOf
 put-wiped {lent} {left} n wipes =
-    let zeros : left ≡ replicate (length lent) 0 = wipes ∙ wiped-all lent in
+    let zeros : left ≡ replicate (length lent) 0 = wipes ∙ wiped-whole lent in
     record {
       hold = refl;
       long = ap length zeros ∙ length-replicate (length lent) 0;

@@ -1,17 +1,16 @@
--- Rows: the words of an action are one of four (RULES 15.3, 15.4), rows put behind others are the rows of both, rows past the
--- room are none, and a wiped room is zero throughout.
+-- Rows: the words of an action are one of four (RULES 15.3, 15.4), rows put behind others are the rows of both, and rows past the
+-- room are none.
 -- Assumes nothing.
-use Prim.Native.Nat.{ℕ, _+_, _-_, _*_, _/_, _<_, min}
+use Prim.Native.Nat.{ℕ, _+_, _*_, _/_, _<_, min}
 use mathlib.Core.Path.{_≡_, refl, sym, ap, _∙_}
 use mathlib.Core.Bool.{Bool, true, false}
 use mathlib.Core.List.{List, [], _∷_, _++_, map, map-append}
-use borrow.Author.Tests.{le-leb, leb-true, leb-false}
+use borrow.Author.Tests.{leb-true, leb-false}
 use native.Mathlib.Omega.{arith}
 use lib.Dec.{leb}
-use lib.ListN.{length, replicate, length-map}
-use Rattle.lists.specs.Outcome.{wiped}
-use Rattle.lists.specs.Rows.{withRows, wordsIn, hasRoom}
-use Rattle.lists.proofs.Fours.{Fours, fours-map, row-left, rows-append, handing-over}
+use lib.ListN.{length, length-map}
+use Rattle.lists.specs.Rows.{withRows}
+use Rattle.lists.proofs.Fours.{Fours, fours-map, row-left, rows-append}
 use Rattle.actions.specs.Action.{actionWords, actionRows}
 use Rattle.actions.specs.declared.action.SafeAction.{SafeAction}
 use Rattle.actions.specs.declared.action.SafeAction.the-variants.{Move, Wait}
@@ -48,9 +47,3 @@ rows-placed room row rows = by (leb row (length room / 4)) refl
     by false e =
         let past = leb-false row (length room / 4) e in
         rows-past room (min row (length room / 4)) rows (omega arith) ∙ sym (rows-past room row rows (omega arith))
-
-pub wiped-all : (room : List ℕ) → wiped room 0 ≡ replicate (length room) 0
-unfolding withRows wordsIn hasRoom
-wiped-all room =
-    let all : length room - 0 ≡ length room = omega arith in
-    rw all at (handing-over room [] tt (le-leb 0 (length room) (omega arith)))

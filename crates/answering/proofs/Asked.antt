@@ -1,10 +1,10 @@
 -- What is known of every stream's plan: a refusal has a number, and a plan at most 289 paths.
 -- Assumes nothing.
 use Prim.Native.Nat.{ℕ, _≤_}
-use mathlib.Core.Path.{_≡_, refl, sym, ap, subst, _∙_}
+use mathlib.Core.Path.{_≡_, refl, ap}
 use mathlib.Core.Logic.{_≢_}
 use mathlib.Core.Bool.{Bool, true, false}
-use mathlib.Core.List.{List, []}
+use mathlib.Core.List.{List}
 use native.Mathlib.Omega.{arith}
 use lib.ListN.{length}
 use Rattle.search.proofs.Few.{asked-few}
@@ -14,7 +14,7 @@ use Rattle.shapes.specs.declared.waypoint.Leg.{Leg}
 use Rattle.obstacles.specs.Lent.{Lent}
 use Rattle.plans.specs.Asked.{askedPlan}
 use Rattle.plans.specs.Plan.{Path, Plan, Planned, Refused, shortPlan}
-use Rattle.path_claims.specs.Whole.{Whole, Long}
+use Rattle.path_claims.specs.Whole.{Long}
 use Rattle.path_claims.proofs.Whole.{whole}
 use Rattle.refusal_claims.proofs.Refusals.{agent-refused}
 use Rattle.streams.specs.Request.{Reading, Of, Malformed}

@@ -1,23 +1,22 @@
 -- What is told of the rooms that a plan leaves is the text of the plan, with 12 past 1,600 actions (RULES 14.18).
 -- Assumes nothing.
-use Prim.Native.Nat.{ℕ, _+_, _-_, _*_, _≤_, _<_}
-use mathlib.Core.Path.{_≡_, refl, sym, ap, _∙_}
+use Prim.Native.Nat.{ℕ, _+_, _*_, _≤_}
+use mathlib.Core.Path.{_≡_, refl, ap, _∙_}
 use mathlib.Core.Logic.{_≢_}
-use mathlib.Core.Bool.{Bool, true, false, _&&_, cond}
-use mathlib.Core.List.{List, [], _∷_, _++_, map, append-nil}
+use mathlib.Core.Bool.{Bool, true, false, cond}
+use mathlib.Core.List.{List, _∷_, _++_, map}
 use borrow.Author.Tests.{le-leb, lt-leb, leb-true, leb-false, ne-eqb}
 use native.Mathlib.Omega.{arith}
-use lib.Dec.{leb, eqb}
-use lib.ListN.{length, take, drop, replicate, length-map}
+use lib.Dec.{leb}
+use lib.ListN.{length, take, replicate, length-map}
 use lib.Seq.{take-at}
 use Rattle.lists.specs.Rows.{wordsIn, hasRoom}
 use Rattle.actions.specs.Action.{actionRows}
 use Rattle.plans.specs.Laid.{fits, filled, planNumber, planRoom, actionRoomOf}
 use Rattle.plans.specs.Plan.{Path, Plan, Planned, Refused, pathRows, headRows, allActions}
-use Rattle.wording.specs.Lines.{okLine, refusedLine}
-use Rattle.telling.specs.Answer.{Row, rowAt, rowsOf, pathLines, planLines, answerText}
-use Rattle.answering.specs.Text.{planText, pathsText, roomed}
-use Rattle.answering.proofs.Rows.{rowOfAction, rowOfPath, rows-cons, action-rows, path-rows, path-lines}
+use Rattle.telling.specs.Answer.{rowAt, rowsOf, planLines, answerText}
+use Rattle.answering.specs.Text.{planText, roomed}
+use Rattle.answering.proofs.Rows.{rowOfPath, rows-cons, action-rows, path-rows, path-lines}
 
 -- A room with a plan's rows and zeros behind them, and one with its actions.
 lines-told : (hints times sweeps : ℕ) (ps : List Path) (zeros others : List ℕ) →

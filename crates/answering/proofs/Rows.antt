@@ -1,29 +1,23 @@
 -- The rows that stand in a plan's rooms are its own, and their lines are its text.
 -- Assumes nothing.
-use Prim.Native.Nat.{ℕ, zero, suc, _+_, _*_, _/_}
+use Prim.Native.Nat.{ℕ, suc, _+_, _*_, _/_}
 use mathlib.Core.Path.{_≡_, refl, sym, ap, _∙_}
-use mathlib.Core.Bool.{true, false}
 use mathlib.Core.List.{List, [], _∷_, _++_, map, map-append, append-assoc}
 use native.Mathlib.Omega.{arith}
 use lib.Ieee.{binary64, toBits}
-use lib.ListN.{length, take, drop, length-map}
+use lib.ListN.{length, length-map}
 use lib.Seq.{take-at, drop-at}
 use Rattle.lists.specs.Listed.{listed}
 use Rattle.lists.specs.Rows.{wordsIn}
-use Rattle.lists.proofs.Listed.{listed-same}
+use Rattle.lists.proofs.Listed.{listed-shift, listed-same}
 use Rattle.patterns.specs.Word.{wordOf}
 use Rattle.actions.specs.Action.{actionWords, actionRows}
-use Rattle.plans.specs.Plan.{Path, pathWords, pathRows, allActions}
+use Rattle.plans.specs.Plan.{Path, pathRows, allActions}
 use Rattle.actions.specs.declared.action.SafeAction.{SafeAction}
 use Rattle.actions.specs.declared.action.SafeAction.the-variants.{Move, Wait}
 use Rattle.wording.specs.Lines.{pathLine}
 use Rattle.telling.specs.Answer.{Row, rowAt, rowsOf, actionLine, actionLines, pathLines}
 use Rattle.answering.specs.Text.{actionText, actionsText, pathText, pathsText}
-
-listed-later : {A : Type 0} (f : ℕ → A) (n i : ℕ) → listed f n (suc i) ≡ listed (λ j. f (suc j)) n i
-unfolding listed
-listed-later f zero i = refl
-listed-later f (suc n) i = ap (λ xs. f (suc i) ∷ xs) (listed-later f n (suc i))
 
 abbrev rowOf : ℕ → ℕ → ℕ → ℕ → Row
 rowOf a b c d = record { first = a; second = b; third = c; fourth = d }
@@ -45,7 +39,7 @@ rows-cons a b c d rest =
     let many : length room / 4 ≡ suc (length rest / 4) = omega arith in
     rw many
     (ap (λ xs. rowOf a b c d ∷ xs)
-    (listed-later (rowAt room) (length rest / 4) 0 ∙
+    (listed-shift (rowAt room) (length rest / 4) 0 ∙
     listed-same (λ j. rowAt room (suc j)) (rowAt rest) (length rest / 4) 0 (λ j _ _. row-later a b c d rest j)))
 
 -- ---- Actions.

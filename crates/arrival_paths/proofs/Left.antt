@@ -6,6 +6,7 @@ use mathlib.Core.List.{List}
 use lib.ListN.{length, replicate, length-replicate}
 use Rattle.lists.specs.Outcome.{wiped}
 use Rattle.lists.specs.Rows.{withRows}
+use Rattle.lists.proofs.Filling.{wiped-whole}
 use Rattle.lists.proofs.Fours.{length-rows}
 use Rattle.numbers.specs.declared.time.Duration.{Duration}
 use Rattle.actions.specs.Action.{actionRows}
@@ -15,7 +16,7 @@ use Rattle.actions.specs.Laid.{Put}
 use Rattle.actions.specs.declared.action.SafeAction.{SafeAction}
 use Rattle.actions.specs.declared.building.Hold.{Hold}
 use Rattle.actions.specs.declared.building.Hold.the-variants as H
-use Rattle.actions.proofs.Rowed.{actions-fours, wiped-all}
+use Rattle.actions.proofs.Rowed.{actions-fours}
 use Rattle.actions.proofs.Known.{actionsOf, held-is, unheld-is}
 use Rattle.actions.proofs.Counted.{Counts}
 use Rattle.arrival_paths.specs.Path as P
@@ -29,7 +30,7 @@ use Rattle.arrival_paths.proofs.Known.{actionsIn}
 pub put-wiped : {lent left : List ℕ} {row : ℕ} (n : ℕ) → left ≡ wiped lent 0 → PutPath (P.Refused n) lent left row (F.Refused n)
 unfolding foundOf
 put-wiped {lent} {left} n wipes =
-    let zeros : left ≡ replicate (length lent) 0 = wipes ∙ wiped-all lent in
+    let zeros : left ≡ replicate (length lent) 0 = wipes ∙ wiped-whole lent in
     record {
       found = refl;
       long = ap length zeros ∙ length-replicate (length lent) 0;

@@ -1,7 +1,7 @@
 -- What the call for one path alone answers: its input is examined first (RULES 4.13, 5.1 to 5.7).
 -- Assumes nothing.
 use Prim.Native.Nat.{ℕ}
-use mathlib.Core.Bool.{Bool, cond, _&&_}
+use mathlib.Core.Bool.{cond, _&&_}
 use mathlib.Core.List.{List, [], _∷_, _++_}
 use lib.ListN.{length}
 use Rattle.lists.specs.Outcome.{Outcome, Gives, Refuses}

@@ -11,13 +11,11 @@ use Rattle.root.specs.declared.nearest.Root.{Root}
 use Rattle.root.specs.declared.nearest.Root.the-variants as R
 use Rattle.shapes.specs.Leg.{placeOf}
 use Rattle.shapes.specs.Vector.{difference, divided}
-use Rattle.shapes.specs.declared.vector.Vector.{Vector}
 use Rattle.shapes.specs.declared.waypoint.Leg.{Leg}
 use Rattle.courses.specs.Norm.{normOf}
 use Rattle.courses.specs.declared.course.Run.{Run}
 use Rattle.courses.specs.declared.course.Ran.{Ran}
 use Rattle.courses.specs.declared.course.Ran.the-variants as N
-use Rattle.courses.specs.declared.course.Course.{Course}
 use Rattle.courses.specs.declared.course.Heading.{Heading}
 use Rattle.courses.specs.declared.course.Heading.the-variants.{Along, Missing, Refused}
 

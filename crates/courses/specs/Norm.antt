@@ -2,7 +2,6 @@
 -- Assumes nothing.
 use mathlib.Core.Bool.{cond}
 use lib.Ieee
-use lib.Ieee.{Float}
 use Rattle.floats.specs.Domain.{still}
 use Rattle.root.specs.Root.{rootOf}
 use Rattle.root.specs.declared.nearest.Root.{Root}

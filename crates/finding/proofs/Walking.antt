@@ -1,6 +1,6 @@
 -- How the walks over legs and over obstacles go: a turn at a time, up to the end or a refusal.
 -- Assumes nothing.
-use Prim.Native.Nat.{ℕ, zero, suc, _+_, _-_, _≤_, _<_}
+use Prim.Native.Nat.{ℕ, _+_, _-_, _≤_, _<_}
 use mathlib.Core.Path.{_≡_, refl, sym, ap, _∙_}
 use mathlib.Core.Bool.{Bool, true, false, cond}
 use mathlib.Core.List.{List}
@@ -14,13 +14,11 @@ use Rattle.shapes.specs.Box.{overlap}
 use Rattle.shapes.specs.declared.bounding_box.BoundingBox.{BoundingBox}
 use Rattle.shapes.specs.declared.profile.CircularProfile.{CircularProfile}
 use Rattle.shapes.specs.declared.waypoint.Leg.{Leg}
-use Rattle.shapes.specs.declared.waypoint.Waypoint.{Waypoint}
 use Rattle.courses.specs.declared.course.Course.{Course}
 use Rattle.obstacles.specs.Obstacle.{Obstacle, legsOf}
-use Rattle.obstacles.specs.Lent.{Lent, startIn, profileIn, waypointIn, legIn, waypointsOf, obstacleIn}
+use Rattle.obstacles.specs.Lent.{Lent, startIn, profileIn, legIn, waypointsOf, obstacleIn}
 use Rattle.obstacles.specs.Boxes.{lastIn}
-use Rattle.obstacles.proofs.Legs.{legs-done, legs-listed}
-use Rattle.obstacles.proofs.Reading.{waypoints-read}
+use Rattle.obstacles.proofs.Reading.{legs-read}
 use Rattle.waits.specs.Hints.{after}
 use Rattle.waits.specs.declared.wait_hints.WaitHints.{WaitHints}
 use Rattle.waits.proofs.Storing.{going, ended, after-going, after-refused}
@@ -96,9 +94,6 @@ pub obstacle-legs : (agent : Course) (p : CircularProfile) (bounds : BoundingBox
 unfolding withObstacle
 obstacle-legs agent p bounds lent boxes o last hints h = by (overlap bounds (boxes o))
   where
-    w : ℕ → Waypoint
-    w = waypointIn (lent .times) (lent .xs) (lent .ys)
-
     leg : ℕ → Leg
     leg = legIn (lent .times) (lent .xs) (lent .ys)
 
@@ -111,14 +106,9 @@ obstacle-legs agent p bounds lent boxes o last hints h = by (overlap bounds (box
     walk : List Leg → WaitHints
     walk legs = withLegs agent bounds (profile .footprint) (gapsOf p profile) o legs hints
 
-    -- A walk up to waypoint 0 has no legs, as one that ends before its first has none.
-    legs : (end : ℕ) → listedTo leg (end - 1) from ≡ legsOf (listedTo w end from)
-    legs zero = listed-done leg 0 from (omega arith) ∙ sym (legs-done w 0 from (omega arith))
-    legs (suc n) = let same : suc n - 1 ≡ n = omega arith in rw (same, ← add-one n) (legs-listed w n from)
-
     by : (t : Bool) → last ≡ cond t (startIn (lent .starts) (length (lent .times)) (o + 1) - 1) 0 →
         walk (listedTo leg last from) ≡ cond t (walk (legsOf (waypointsOf lent o))) hints
     by true e =
         let end : ℕ = startIn (lent .starts) (length (lent .times)) (o + 1) in
-        rw (e, legs end, waypoints-read lent o end h refl)
+        rw (e, legs-read lent o end h refl)
     by false e = legs-walked agent bounds (profile .footprint) (gapsOf p profile) o leg last from hints (omega arith)

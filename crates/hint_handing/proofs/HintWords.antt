@@ -1,7 +1,7 @@
 -- Hints as words, six for each: where they stand in a room that is filled one hint at a time (RULES 11.8).
 -- Assumes nothing.
 use Prim.Native.Nat.{ℕ, suc, _+_, _*_, _≤_, _<_}
-use mathlib.Core.Path.{_≡_, refl, sym, ap, _∙_}
+use mathlib.Core.Path.{_≡_, sym, ap, _∙_}
 use mathlib.Core.List.{List, [], _∷_, _++_, append-assoc, append-nil}
 use native.Mathlib.Omega.{arith}
 use native.Mathlib.Numerals.{add-one}
@@ -9,10 +9,7 @@ use lib.ListN.{length, take, drop, set, getD, length-append}
 use lib.Seq.{take-suc, take-at, take-suc-set, length-take-le, sets-eq}
 use Rattle.ranking.specs.declared.order.RankedHint.{RankedHint}
 use Rattle.lending.specs.Lent.{hintWords, allWords}
-
-length-hint-words : (h : RankedHint) → length (hintWords h) ≡ 6
-unfolding hintWords
-length-hint-words h = refl
+use Rattle.lending.proofs.Lending.{six-words}
 
 -- The words of one hint more stand behind those of the others.
 all-words-last : (hints : List RankedHint) (h : RankedHint) → allWords (hints ++ (h ∷ [])) ≡ allWords hints ++ hintWords h
@@ -51,7 +48,7 @@ words-next room n hints i d h k e =
     let rest = drop (at + 6) room in
     let front = take at room in
     let long : length (front ++ w) ≡ 1 + 6 * (i + 1) =
-    omega (arith, length-append front w, length-take-le at room (omega arith), length-hint-words (getD hints i d)) in
+    omega (arith, length-append front w, length-take-le at room (omega arith), six-words (getD hints i d)) in
     ap (take (1 + 6 * (i + 1))) (sym (append-assoc front w rest)) ∙
     take-at (front ++ w) rest (1 + 6 * (i + 1)) long ∙
     ap (λ (words : List ℕ). words ++ w) e ∙

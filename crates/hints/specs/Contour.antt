@@ -2,7 +2,6 @@
 -- Assumes nothing.
 use mathlib.Core.Bool.{cond}
 use mathlib.Core.List.{List, [], _∷_}
-use lib.Dec.{eqb}
 use lib.Ieee
 use lib.Ieee.{Float, binary64}
 use Rattle.floats.specs.Domain.{still}

@@ -233,7 +233,7 @@ hint-behind front tail =
       getD-append-add front tail 5 0,
     )
 
-six-words : (h : RankedHint) → length (hintWords h) ≡ 6
+pub six-words : (h : RankedHint) → length (hintWords h) ≡ 6
 unfolding hintWords
 six-words h = refl
 

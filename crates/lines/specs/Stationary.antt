@@ -1,6 +1,6 @@
 -- When something in motion is within a distance of a place (RULES 10.37 to 10.39).
 -- Assumes nothing.
-use mathlib.Core.Bool.{Bool, cond, _&&_}
+use mathlib.Core.Bool.{cond, _&&_}
 use mathlib.Core.List.{[], _∷_}
 use lib.Ieee
 use lib.Ieee.{Float, binary64, toBits}

@@ -1,11 +1,10 @@
 -- The arrival times of a plan: among few obstacles a search is not refused for their number, and what it leaves in its list are
 -- all its times (RULES 3.5, 12.18, 12.19).
 -- Assumes nothing.
-use Prim.Native.Nat.{ℕ, suc, _-_, _≤_}
+use Prim.Native.Nat.{ℕ, _-_, _≤_}
 use mathlib.Core.Path.{_≡_, refl, sym, ap, _∙_}
 use mathlib.Core.Bool.{Bool, true, false, cond, true≢false}
 use mathlib.Core.List.{List, [], _∷_, _++_}
-use native.Mathlib.Omega.{arith}
 use borrow.Author.Tests.{le-ltb, ltb-false}
 use lib.Dec.{ltb}
 use lib.IntN.{ℤ, pos}
@@ -18,12 +17,11 @@ use Rattle.obstacles.specs.Obstacle.{Obstacle}
 use Rattle.obstacles.specs.Examined.{isFew}
 use Rattle.arrivals.specs.Search as A
 use Rattle.arrivals.specs.Search.{Answer, Answered, Unfinished}
-use Rattle.arrivals.proofs.Theorems.{at-most, fewer}
-use Rattle.nearing.specs.Watched.{viewAt, watchedAll, arrivalsAt, arrivalsAmong}
+use Rattle.nearing.specs.Watched.{arrivalsAt, arrivalsAmong}
 use Rattle.search.specs.Listing.{numbersOf, countsIn, timesIn, Told}
 use Rattle.search.specs.declared.arrival_times.Arrivals.{Arrivals}
 use Rattle.search.specs.declared.arrival_times.Arrivals.the-variants as C
-use Rattle.search.proofs.Few.{few-watched}
+use Rattle.search.proofs.Words.{length-numbers}
 use Rattle.plans.specs.Plan.{Plan, Refused, timed, instantsOf}
 
 -- With no more obstacles and legs than the domain allows.
@@ -31,20 +29,6 @@ pub among-few : (p : CircularProfile) (g : Waypoint) (os : List Obstacle) →
     isFew os ≡ true → arrivalsAmong p g os ≡ arrivalsAt p g os
 unfolding arrivalsAmong
 among-few p g os e = rw e
-
--- A search that is answered makes at most 289 sweeps, and lists no more times than that (RULES 12.14, 12.19).
-pub few-listed : (p : CircularProfile) (g : Waypoint) (os : List Obstacle) (l : List TimePoint) (n : ℕ) →
-    isFew os ≡ true → arrivalsAt p g os ≡ Answered l n → length l ≤ 289
-unfolding arrivalsAt
-few-listed p g os l n few e =
-    let times = fewer (viewAt g) (watchedAll p os) (g .time) e in
-    let sweeps = at-most (viewAt g) (watchedAll p os) (g .time) e in
-    omega (arith, few-watched p os few)
-
-length-numbers : (l : List TimePoint) → length (numbersOf l) ≡ length l
-unfolding numbersOf
-length-numbers [] = refl
-length-numbers (t ∷ l) = ap suc (length-numbers l)
 
 instants-back : (l : List TimePoint) → instantsOf (numbersOf l) ≡ l
 unfolding instantsOf numbersOf

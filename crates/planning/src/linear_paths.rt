@@ -12,18 +12,15 @@ use search::arrival_times::Arrivals;
 use shapes::bounding_box::BoundingBox;
 use ways::trip::Trip;
 ghost use mathlib.Core.Path.{_≡_};
-ghost use mathlib.Core.List.{_∷_, []};
 ghost use mathlib.Core.Bool.{true};
 ghost use Prim.Native.Nat.{_≤_};
 ghost use lib.ListN.{length, take};
-ghost use Rattle.patterns.specs.Word.{wordOf};
-ghost use Rattle.lists.specs.Rows.{withRow};
 ghost use Rattle.obstacles.specs.Lent.{lentOf, obstaclesOf, obstaclesWith};
 ghost use Rattle.obstacles.specs.Boxes.{boxIn};
 ghost use Rattle.obstacles.specs.Examined.{isFew};
 ghost use Rattle.ranking.specs.Hints.{held};
-ghost use Rattle.plans.specs.Plan.{Refused, pathsFor, instantsOf, pathsPlanned, timesPlanned, hintsPlanned, shortPlan};
-ghost use Rattle.plans.specs.Laid.{PutPaths, SettledBoth, PlanHanded};
+ghost use Rattle.plans.specs.Plan.{Refused, pathsFor, instantsOf, pathsPlanned, timesPlanned, hintsPlanned};
+ghost use Rattle.plans.specs.Laid.{PutPaths, PlanHanded};
 
 // A path or none for each of the first `count` arrival times of a list.
 fn put_paths(

@@ -11,7 +11,7 @@ use lib.IntN.{pos}
 use lib.Ieee.{nan}
 use lib.ListN.{length, take, getD, length-replicate}
 use Rattle.lists.specs.Listed.{listed, listedTo}
-use Rattle.lists.proofs.Listed.{listed-done, listed-next}
+use Rattle.lists.proofs.Listed.{listed-done, listed-next, listed-shift}
 use Rattle.ranking.specs.Ranked.{before, sorted}
 use Rattle.ranking.specs.Hints.{blank, refusedBy, noHints, held}
 use Rattle.ranking.specs.declared.order.RankedHint.{RankedHint}
@@ -29,11 +29,6 @@ past =
 -- Place i of the array.
 abbrev pub at : RankedHints → ℕ → RankedHint
 at list i = getD (list .all) i past
-
-listed-shift : {A : Type 0} (f : ℕ → A) (n i : ℕ) → listed f n (suc i) ≡ listed (λ j. f (suc j)) n i
-unfolding listed
-listed-shift f zero i = refl
-listed-shift f (suc n) i = ap (λ l. f (suc i) ∷ l) (listed-shift f n (suc i))
 
 take-listed : {A : Type 0} (d : A) (n : ℕ) (l : List A) → n ≤ length l → take n l ≡ listed (λ i. getD l i d) n 0
 unfolding listed

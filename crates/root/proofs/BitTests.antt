@@ -2,7 +2,7 @@
 -- Assumes nothing.
 use mathlib.Core.Path.{_≡_, refl, sym, ap, _∙_, subst}
 use mathlib.Core.Bool.{Bool, true, false, cond}
-use Prim.Native.Nat.{zero, suc, _-_, _^_, _≤_, _<_}
+use Prim.Native.Nat.{zero, suc, _^_, _≤_, _<_}
 use native.Mathlib.Nat.{zero-lt-suc, zero-mul, zero-div}
 use native.Mathlib.Omega.{arith}
 use lib.IntN.{ℤ}

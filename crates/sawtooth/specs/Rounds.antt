@@ -1,7 +1,7 @@
 -- The rounds of a chase (RULES 10.22, 10.23).
 -- Assumes nothing.
 use Prim.Native.Nat.{ℕ, zero, suc, _-_}
-use mathlib.Core.Bool.{Bool, true, false, cond, not, _||_}
+use mathlib.Core.Bool.{true, false, cond, not, _||_}
 use lib.Signed.{ltZ}
 use lib.Ieee
 use lib.Ieee.{Float, binary64}

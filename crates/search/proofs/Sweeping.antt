@@ -1,11 +1,9 @@
 -- How a sweep, and the search for the next candidate, go over the obstacles of a table: one at a time, up to the end.
 -- Assumes nothing.
-use Prim.Native.Nat.{ℕ, zero, suc, _+_, _-_, _≤_, _<_}
-use mathlib.Core.Path.{_≡_, sym, ap, _∙_}
+use Prim.Native.Nat.{ℕ, _+_, _-_, _≤_, _<_}
+use mathlib.Core.Path.{_≡_, ap}
 use mathlib.Core.Bool.{Bool, cond}
 use mathlib.Core.List.{List}
-use native.Mathlib.Omega.{arith}
-use native.Mathlib.Numerals.{add-one}
 use lib.ListN.{length, getD}
 use Rattle.lists.specs.Listed.{listedTo}
 use Rattle.lists.proofs.Listed.{listed-done, listed-next}
@@ -13,12 +11,10 @@ use Rattle.numbers.specs.declared.time.TimePoint.{TimePoint}
 use Rattle.shapes.specs.Distance.{criticalDistanceSquared}
 use Rattle.shapes.specs.declared.bounding_box.BoundingBox.{BoundingBox}
 use Rattle.shapes.specs.declared.profile.CircularProfile.{CircularProfile}
-use Rattle.shapes.specs.declared.waypoint.Leg.{Leg}
 use Rattle.shapes.specs.declared.waypoint.Waypoint.{Waypoint}
-use Rattle.obstacles.specs.Obstacle.{Obstacle, legsOf}
-use Rattle.obstacles.specs.Lent.{Lent, startIn, profileIn, waypointIn, legIn, obstacleIn}
-use Rattle.obstacles.proofs.Legs.{legs-done, legs-listed}
-use Rattle.obstacles.proofs.Reading.{waypoints-read}
+use Rattle.obstacles.specs.Obstacle.{Obstacle}
+use Rattle.obstacles.specs.Lent.{Lent, startIn, profileIn, legIn, obstacleIn}
+use Rattle.obstacles.proofs.Reading.{legs-read}
 use Rattle.arrivals.specs.Search.{found, swept, adjust, next, soonest, sweep}
 use Rattle.arrivals.specs.declared.next.Next.{Next}
 use Rattle.arrivals.specs.declared.turn.Adjustment.{Adjustment}
@@ -32,21 +28,7 @@ pub obstacle-watched : (p : CircularProfile) (lent : Lent) (boxes : ℕ → Boun
     (listedTo (legIn (lent .times) (lent .xs) (lent .ys)) (end - 1) (getD (lent .starts) o 0)) ≡
     watchedOf p (obstacleIn lent boxes o)
 obstacle-watched p lent boxes o end h e =
-    ap (watchedLegs (criticalDistanceSquared p (profileIn (lent .numbers) o)))
-    (legs end ∙ ap legsOf (waypoints-read lent o end h e))
-  where
-    w : ℕ → Waypoint
-    w = waypointIn (lent .times) (lent .xs) (lent .ys)
-
-    leg : ℕ → Leg
-    leg = legIn (lent .times) (lent .xs) (lent .ys)
-
-    from : ℕ
-    from = getD (lent .starts) o 0
-
-    legs : (n : ℕ) → listedTo leg (n - 1) from ≡ legsOf (listedTo w n from)
-    legs zero = listed-done leg 0 from (omega arith) ∙ sym (legs-done w 0 from (omega arith))
-    legs (suc n) = let same : suc n - 1 ≡ n = omega arith in rw (same, ← add-one n) (legs-listed w n from)
+    ap (watchedLegs (criticalDistanceSquared p (profileIn (lent .numbers) o))) (legs-read lent o end h e)
 
 module _ (p : CircularProfile) (place : Waypoint) (f : ℕ → Obstacle) (end o : ℕ) where
   abbrev from : ℕ → List (List Watched)

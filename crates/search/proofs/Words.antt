@@ -19,7 +19,7 @@ use Rattle.search.specs.Words.{arrivalsOutcome, listingOutcome}
 use Rattle.search.specs.declared.arrival_times.Arrivals.{Arrivals}
 use Rattle.search.proofs.Few.{asked-few}
 
-length-numbers : (l : List TimePoint) → length (numbersOf l) ≡ length l
+pub length-numbers : (l : List TimePoint) → length (numbersOf l) ≡ length l
 unfolding numbersOf
 length-numbers [] = refl
 length-numbers (t ∷ l) = ap suc (length-numbers l)

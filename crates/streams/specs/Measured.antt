@@ -1,6 +1,5 @@
 -- What is found of the counts of a request.
 -- Assumes nothing.
-use Prim.Native.Nat.{ℕ}
 use mathlib.Core.Bool.{cond}
 use mathlib.Core.List.{List}
 use Rattle.streams.specs.Request.{Obstacle}

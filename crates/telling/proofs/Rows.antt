@@ -10,7 +10,7 @@ use Rattle.lists.specs.Listed.{listed, listedTo}
 use Rattle.lists.proofs.Listed.{listed-done, listed-next}
 use Rattle.wording.specs.Lines.{okLine, pathLine}
 use Rattle.telling.specs.Answer.{Row, rowAt, rowsOf, actionLines, pathLines, planLines}
-use Rattle.texts.proofs.Putting.{either}
+use Rattle.lists.proofs.Fours.{either}
 
 module _ {A : Type 0} (f : ℕ → A) where
   take-listed : (n m i : ℕ) → take n (listed f m i) ≡ listed f (min n m) i

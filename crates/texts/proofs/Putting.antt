@@ -2,14 +2,13 @@
 -- Assumes nothing.
 use Prim.Native.Nat.{ℕ, suc, _+_, _≤_, _<_}
 use mathlib.Core.Path.{_≡_, refl, sym, ap, _∙_}
-use mathlib.Core.Bool.{Bool, true, false}
 use mathlib.Core.List.{List, [], _∷_, _++_}
-use borrow.Author.Tests.{le-leb, lt-leb, leb-true, leb-false}
+use borrow.Author.Tests.{le-leb, lt-leb}
 use native.Mathlib.Nat.{add-zero}
 use native.Mathlib.Omega.{arith}
-use lib.Dec.{leb}
 use lib.ListN.{length, set, length-set, length-append}
 use lib.Seq.{set-out}
+use Rattle.lists.proofs.Fours.{either}
 use Rattle.texts.specs.Room.{written, reached, Put}
 
 -- ---- The room.
@@ -43,14 +42,6 @@ reached-fits room at n h = rw (le-leb (at + n) room h)
 pub reached-short : (room at n : ℕ) → room < at + n → reached room at n ≡ room + 1
 unfolding reached
 reached-short room at n h = rw (lt-leb (at + n) room h)
-
--- A number is at most another, or above it.
-pub either : (n m : ℕ) (G : Type 0) → (n ≤ m → G) → (m < n → G) → G
-either n m G fits short = by (leb n m) refl
-  where
-    by : (t : Bool) → leb n m ≡ t → G
-    by true e = fits (leb-true n m e)
-    by false e = short (leb-false n m e)
 
 reached-append : (room at n m : ℕ) → reached room (reached room at n) m ≡ reached room at (n + m)
 reached-append room at n m = either (at + n) room Same fits short

@@ -17,7 +17,8 @@ use Rattle.lists.proofs.Filling.{wiped-after}
 use Rattle.texts.specs.Room.{written, Put, Tells, Settled, toldOf, toldNumber}
 use Rattle.texts.specs.declared.room.Told.{Told}
 use Rattle.texts.specs.declared.room.Told.the-variants.{Text, Refused}
-use Rattle.texts.proofs.Putting.{either, reached-fits, reached-short, put-kept}
+use Rattle.lists.proofs.Fours.{either}
+use Rattle.texts.proofs.Putting.{reached-fits, reached-short, put-kept}
 
 pub told-fits : (text : List ℕ) (room : ℕ) → length text ≤ room → toldOf text room ≡ Text (length text)
 unfolding toldOf

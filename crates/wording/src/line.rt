@@ -1,7 +1,6 @@
 // The lines, each a word with its fields (docs/RULES.md, 15.1 to 15.5).
 use texts::numerals;
 use texts::room;
-ghost use mathlib.Core.Path.{_≡_};
 ghost use Prim.Native.Nat.{_<_};
 ghost use lib.ListN.{length};
 ghost use Rattle.texts.specs.Room.{Put};

@@ -1,7 +1,7 @@
 -- `plan_exports::text_calls::igelbert_plan` meets its contract: what `reply` tells, by its number.
 -- Assumes nothing.
 use borrow.Author.Needs.{needs}
-use mathlib.Core.Path.{_≡_, sym, ap, _∙_}
+use mathlib.Core.Path.{sym, ap, _∙_}
 use Rattle.texts.specs.Room.{toldNumber}
 use Rattle.texts.proofs.Telling.{tells-handed}
 use Rattle.plan_exports.proofs.text_calls.igelbert_plan.Statement.{statement}

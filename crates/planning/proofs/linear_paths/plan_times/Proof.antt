@@ -4,7 +4,8 @@
 use native.Mathlib.Omega.{arith}
 use Rattle.obstacles.specs.Lent.{lentOf, obstaclesOf}
 use Rattle.plans.specs.Plan.{timesPlanned}
-use Rattle.planning.proofs.Among.{among-few, few-listed, told-refused, told-few, told-listed}
+use Rattle.search.proofs.Few.{few-listed}
+use Rattle.planning.proofs.Among.{among-few, told-refused, told-few, told-listed}
 use borrow.Author.Needs.{needs}
 use Rattle.planning.proofs.linear_paths.plan_times.Statement.{statement}
 use Rattle.planning.proofs.linear_paths.plan_times.Tie as tie
