@@ -18,12 +18,12 @@ pub enum Reached {
 pub fn waypoint_of(hint: WaitHint) -> Waypoint
     ensures { λ r. ⌜ r ≡ waypointOf hint ⌝ }
 {
-    let place = hint.place;
+    let at = hint.place;
     let time = hint.until;
     Waypoint {
         time,
-        x: place.x,
-        y: place.y,
+        x: at.x,
+        y: at.y,
     }
 }
 

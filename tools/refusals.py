@@ -1,0 +1,144 @@
+#!/usr/bin/env python3
+"""Holds every fault of the must-fail edits to its refusal, by what the checks of `rt ci` or `rt must-fail` said.
+
+`rt` tells that an edit is refused; its checks tell where. The proofs in which the prover refuses a fact must be those that the
+edit's faults name, each at the fact named, and no others. A proof that only rests on a refused one does not count, and one that
+no longer fits the code is no refusal: an edit keeps the shape of the code.
+
+Prints each fault that is not refused so, with its file and line, and ends with status 1, or prints one line of counts. With
+--form it asks only whether the edits are well formed and every public function has a fault, which needs no check. With --apart
+DIR it writes the crates to DIR, with an edit for each fault, so that `rt must-fail` there tries each by itself.
+"""
+
+import argparse
+import re
+import shutil
+import sys
+from pathlib import Path
+
+from contracts import Contracts
+from faults import read_all
+from house import Fault as Found
+
+ROOT = Path(__file__).resolve().parents[1]
+ERROR = re.compile(r":\d+:\d+: error: (?:`([^`]*)`: )?(.*)")
+UNPROVED = re.compile(r"fn \w+::(\S+): no proof: .*`search` does not close (.*)")
+RESTS_ON_ANOTHER = "was not admitted"
+UNFIT = re.compile(r"\bhas no (?:field )?`")
+
+# Public functions without a fault of their own, each with the reason.
+TWINS = "an instant's and a span's are the same line, which an edit cannot tell apart; the faults are those of `{}`, all that it calls"
+ELSEWHERE = {
+    f"numbers::time::{kind}::{name}": TWINS.format(called)
+    for kind in ("TimePoint", "Duration")
+    for name, called in (("is_in_reach", "in_reach"), ("as_secs_f64", "seconds_of"))
+}
+
+
+def proof_name(path):
+    """A file of a crate as a fault names it: the proof of a function by the function's path, any other as it is."""
+    parts = Path(path).parts
+    if parts[0] == "proofs" and parts[-1] == "Proof.antt":
+        return "::".join(parts[1:-1])
+    return path
+
+
+def refusals(folder, log):
+    """Proof -> the facts refused in it, by what a check of the crate in `folder` said, and the proofs that are unfit."""
+    refused, unfit = {}, {}
+    start = f"{folder}/"
+    for line in log.splitlines():
+        unproved = UNPROVED.match(line)
+        if unproved:
+            refused.setdefault(unproved[1], set()).update(re.findall(r"`([^`]+)`", unproved[2]))
+        path, _, _ = line.removeprefix(start).partition(":")
+        error = line.startswith(start) and ERROR.match(line, len(start) + len(path))
+        if error and RESTS_ON_ANOTHER not in error[2]:
+            kind = unfit if UNFIT.search(error[2]) else refused
+            kind.setdefault(proof_name(path), set()).add(error[1])
+    return refused, unfit
+
+
+def held(edit, faults, refused, unfit):
+    """What is wrong with an edit's refusals."""
+    named = {proof: (fault, fact) for fault in faults for proof, fact in fault.refused.items()}
+    for proof, (fault, fact) in named.items():
+        facts = refused.get(proof, set())
+        if proof in unfit:
+            text = f"changes the shape of the code: the proof of `{proof}` does not fit at {shown(unfit[proof])}"
+        elif not facts:
+            text = f"is not refused in `{proof}`"
+        elif fact not in facts:
+            text = f"is refused in `{proof}` at {shown(facts)}, not at `{fact}`"
+        else:
+            continue
+        yield Found(fault.file, fault.line, f"`{fault.label}` {text}")
+    for proof in sorted((refused.keys() | unfit.keys()) - named.keys()):
+        text = f"`{proof}` is refused at {shown(refused.get(proof, set()) | unfit.get(proof, set()))}, and no fault names it"
+        yield Found(edit, 1, text)
+
+
+def shown(facts):
+    return ", ".join(f"`{fact}`" for fact in sorted(facts, key=str))
+
+
+def uncovered(root, edits):
+    """The public functions for which there is no fault, and no reason why not."""
+    named = {f"{fault.crate}::{proof}" for faults in edits.values() for fault in faults for proof in fault.refused}
+    public = {contract.name: contract for contract in Contracts(root).all}
+    for name, contract in public.items():
+        if name not in named and name not in ELSEWHERE:
+            yield Found(contract.file, contract.line, f"there is no fault for `{name}`, which is public")
+    for name in ELSEWHERE.keys() & named:
+        yield Found(public[name].file, public[name].line, f"there is a fault for `{name}`, and a reason why there is none")
+
+
+def check(root, edits):
+    """What is wrong with the refusals of all edits."""
+    for path, faults in edits.items():
+        edit = path.relative_to(root).as_posix()
+        folder = root / "target" / "must-fail" / path.parents[1].name / path.stem
+        log = folder / ".log"
+        if not log.is_file():
+            yield Found(edit, 1, "was not tried: run `rt ci` or `rt must-fail` first")
+            continue
+        yield from held(edit, faults, *refusals(folder, log.read_text(encoding="utf-8")))
+
+
+def write_apart(root, edits, folder):
+    """The crates in `folder`, with an edit for each fault."""
+    shutil.copytree(root / "crates", folder / "crates", ignore=shutil.ignore_patterns("must-fail"))
+    shutil.copy(root / "crates.txt", folder)
+    for fault in (fault for faults in edits.values() for fault in faults):
+        edit = folder / "crates" / fault.crate / "must-fail" / f"{fault.label}.edit"
+        edit.parent.mkdir(exist_ok=True)
+        where = (f"refused: {proof} at {fact}" for proof, fact in fault.refused.items())
+        edit.write_text("\n".join([f"# {fault.label}: {fault.why}", *where, *fault.lines, ""]), encoding="utf-8")
+
+
+def main(arguments=None):
+    parser = argparse.ArgumentParser(prog="refusals", description=__doc__, formatter_class=argparse.RawDescriptionHelpFormatter)
+    parser.add_argument("root", nargs="?", type=Path, default=ROOT, help="the repository, or a folder that --apart wrote")
+    parser.add_argument("--form", action="store_true", help="ask only what needs no check")
+    parser.add_argument("--apart", type=Path, metavar="DIR", help="write the crates to DIR, with an edit for each fault")
+    given = parser.parse_args(arguments)
+    if given.apart and given.apart.exists():
+        parser.error(f"{given.apart} is there already")
+    root = given.root.resolve()
+    edits, found = read_all(root)
+    found.extend(uncovered(root, edits))
+    if not found and given.apart:
+        write_apart(root, edits, given.apart)
+    elif not found and not given.form:
+        found.extend(check(root, edits))
+    for fault in sorted(found):
+        print(fault)
+    if not found:
+        faults = sum(map(len, edits.values()))
+        refused = "" if given.form or given.apart else ", each refused in its own proof at the fact that it names"
+        print(f"refusals: {faults} faults in {len(edits)} edits{refused}")
+    return 1 if found else 0
+
+
+if __name__ == "__main__":
+    sys.exit(main())
