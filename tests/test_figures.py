@@ -25,8 +25,9 @@ class Figures(unittest.TestCase):
         self.write("specs/A.antt", "-- about\na : N\na = 1\n")
         self.write("proofs/B.antt", "b : N\n")
         self.write("proofs/f/Proof.antt", "-- about\nc : N\nc = 1\nd = 2\n")
-        self.write("must-fail/x.edit", "")
-        self.assertEqual(tool.sizes(self.root), (2, 2, 1, 3, 1))
+        self.write("must-fail/x.edit", "# a: one\nold: x\n\n# b: two\nold: # y\n")
+        self.write("must-fail/y.edit", "# c: three\n")
+        self.assertEqual(tool.sizes(self.root), (2, 2, 1, 3, 2, 3))
 
     def test_crates_in_order(self):
         self.write("crates.txt", "# all\nb: c\nc:   # low\n")

@@ -91,6 +91,8 @@ class Refusals(unittest.TestCase):
         for text in ("record `S` has no field `before`", "module `Tie` has no `Need-sub-d` that can be named from here"):
             self.log(REFUSED.replace("the two types differ", text))
             self.assert_fault(1, "`ends_swapped` changes the shape of the code")
+        self.log(REFUSED + f"@/{SINCE}:52:46: error: `since-spec`: expected type `tie.Need-add`, but this has type `tie.Need-sub`\n")
+        self.assert_fault(1, "`ends_swapped` changes the shape of the code")
 
     def test_a_refusal_that_no_fault_names(self):
         self.log(REFUSED + "@/proofs/Other.antt:3:1: error: `more`: no\n")

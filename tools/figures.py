@@ -28,16 +28,18 @@ def crates(root):
 
 
 def sizes(crate):
-    """Lines of code, definitions, laws and proofs of functions, and the edits."""
+    """Lines of code, definitions, laws and proofs of functions, the edits, and the faults in them, each with one `# ` line."""
     proofs = list(crate.glob("proofs/**/*.antt"))
     of_functions = [f for f in proofs if f.name == "Proof.antt"]
     laws = [f for f in proofs if f.name != "Proof.antt"]
+    edits = [f.read_text() for f in crate.glob("must-fail/*.edit")]
     return (
         lines(crate.glob("src/**/*.rt"), "//"),
         lines(crate.glob("specs/**/*.antt"), "--"),
         lines(laws, "--"),
         lines(of_functions, "--"),
-        len(list(crate.glob("must-fail/*.edit"))),
+        len(edits),
+        sum(len(re.findall(r"^# ", edit, re.M)) for edit in edits),
     )
 
 
@@ -65,8 +67,8 @@ def main():
     except OSError as why:
         sys.exit(f"figures: {why}")
     proof, edits = seconds(log), edit_seconds(log)
-    print("| Crate | Code | Definitions | Laws | Proofs of functions | Edits | Seconds | Seconds of its edits |")
-    print("|---|---|---|---|---|---|---|---|")
+    print("| Crate | Code | Definitions | Laws | Proofs of functions | Edits | Faults | Seconds | Seconds of its edits |")
+    print("|---|---|---|---|---|---|---|---|---|")
     for name, *counts in rows:
         print(f"| {name} | {' | '.join(map(str, counts))} | {proof.get(name, '')} | {edits.get(name, '')} |")
     totals = [sum(column) for column in zip(*(row[1:] for row in rows))]

@@ -25,6 +25,8 @@ ERROR = re.compile(r":\d+:\d+: error: (?:`([^`]*)`: )?(.*)")
 UNPROVED = re.compile(r"fn \w+::(\S+): no proof: .*`search` does not close (.*)")
 RESTS_ON_ANOTHER = "was not admitted"
 UNFIT = re.compile(r"\bhas no (?:field )?`")
+# a function's theorem, which only puts the facts together
+THEOREM = "-spec"
 
 # Public functions without a fault of their own, each with the reason.
 TWINS = "an instant's and a span's are the same line, which an edit cannot tell apart; the faults are those of `{}`, all that it calls"
@@ -54,7 +56,7 @@ def refusals(folder, log):
         path, _, _ = line.removeprefix(start).partition(":")
         error = line.startswith(start) and ERROR.match(line, len(start) + len(path))
         if error and RESTS_ON_ANOTHER not in error[2]:
-            kind = unfit if UNFIT.search(error[2]) else refused
+            kind = unfit if UNFIT.search(error[2]) or error[1].endswith(THEOREM) else refused
             kind.setdefault(proof_name(path), set()).add(error[1])
     return refused, unfit
 
