@@ -13,7 +13,7 @@ import faults  # noqa: E402
 import refusals as tool  # noqa: E402
 
 EDIT = """# ends_swapped: a span goes from the earlier instant to the later
-refused: time::TimePoint::since at sub-d
+refused: time::TimePoint::since at sub-d, returns-2
 file: src/time.rt
 old: x - y
 new: y - x
@@ -29,6 +29,7 @@ SINCE = "proofs/time/TimePoint/since/Proof.antt"
 REFUSED = (
     f"@/{SINCE}:31:11: error: `sub-d`: the two types differ\n"
     "  expected type `a` but `b`\n"
+    f"@/{SINCE}:40:51: error: `returns-2`: the two types first differ\n"
     f"@/{SINCE}:52:46: error: `since-spec`: `sub-d` was not admitted (it has holes), so this cannot be checked\n"
     "@/proofs/Sums.antt:7:1: error: `plus-more`: no occurrence of the left endpoint\n"
     "@/proofs/time/TimePoint/plus/Proof.antt:9:2: error: `plus-spec`: `close` was not admitted (..), so this cannot be checked\n"
@@ -77,32 +78,33 @@ class Refusals(unittest.TestCase):
 
     def test_a_fault_that_is_not_refused(self):
         self.log(REFUSED.replace("error: `plus-more`", "note: `plus-more`"))
-        self.assert_fault(7, "`sum_lost` is not refused in `proofs/Sums.antt`")
+        self.assert_fault(7, "`sum_lost` is not refused at `plus-more` of `proofs/Sums.antt`")
 
     def test_a_proof_that_only_rests_on_another(self):
         self.log(REFUSED.replace("the two types differ", "`x` was not admitted (..), so this cannot be checked"))
-        self.assert_fault(1, "`ends_swapped` is not refused in `time::TimePoint::since`")
+        self.assert_fault(1, "`ends_swapped` is not refused at `sub-d` of `time::TimePoint::since`")
 
     def test_another_fact(self):
         self.log(REFUSED.replace("error: `sub-d`", "error: `returns`"))
-        self.assert_fault(1, "`ends_swapped` is refused in `time::TimePoint::since` at `returns`, not at `sub-d`")
+        told = self.assert_fault(1, "`ends_swapped` is not refused at `sub-d` of `time::TimePoint::since`")
+        self.assertIn("`returns` of `time::TimePoint::since` is refused, and no fault names it", told)
 
     def test_a_proof_that_no_longer_fits(self):
         for text in ("record `S` has no field `before`", "module `Tie` has no `Need-sub-d` that can be named from here"):
             self.log(REFUSED.replace("the two types differ", text))
-            self.assert_fault(1, "`ends_swapped` changes the shape of the code")
+            self.assert_fault(1, "a fault changes the shape of the code: `sub-d` of `time::TimePoint::since` does not fit it")
         self.log(REFUSED + f"@/{SINCE}:52:46: error: `since-spec`: expected type `tie.Need-add`, but this has type `tie.Need-sub`\n")
-        self.assert_fault(1, "`ends_swapped` changes the shape of the code")
+        self.assert_fault(1, "a fault changes the shape of the code: `since-spec` of `time::TimePoint::since` does not fit it")
 
     def test_a_refusal_that_no_fault_names(self):
         self.log(REFUSED + "@/proofs/Other.antt:3:1: error: `more`: no\n")
-        told = self.assert_fault(1, "`proofs/Other.antt` is refused at `more`, and no fault names it")
+        told = self.assert_fault(1, "`more` of `proofs/Other.antt` is refused, and no fault names it")
         self.assertEqual(told.count("\n"), 1)
 
     def test_a_function_without_a_proof_file(self):
-        since = next(line for line in REFUSED.splitlines() if "`sub-d`: the two" in line)
-        text = "fn a::time::TimePoint::since: no proof: expected `x` in y; `search` does not close `sub-d` and `returns`\n"
-        self.log(REFUSED.replace(since + "\n", "") + text)
+        others = "".join(line for line in REFUSED.splitlines(True) if f"@/{SINCE}" not in line)
+        text = "fn a::time::TimePoint::since: no proof: expected `x` in y; `search` does not close `sub-d` and `returns-2`\n"
+        self.log(others + text)
         self.assertEqual(self.said()[0], 0)
 
     def test_an_edit_that_was_not_tried(self):
@@ -116,7 +118,7 @@ class Refusals(unittest.TestCase):
             ("old: x - y\n", "", 1, "`ends_swapped` needs `file:`, `old:` and `new:`"),
             ("file: specs/Time.antt\n", "", 7, "`sum_lost` needs `file:`, `old:` and `new:`"),
             ("refused: proofs", "refuse: proofs", 8, "is no line of a fault"),
-            ("proofs/Sums.antt", "time::TimePoint::since", 1, "`time::TimePoint::since` is named by two faults"),
+            ("proofs/Sums.antt at plus-more", "time::TimePoint::since at sub-d", 1, "`sub-d` of `time::TimePoint::since` is named twice"),
             ("# sum_lost", "# ends_swapped", 7, "`ends_swapped` is also a fault of"),
             (EDIT, "", 1, "has no fault"),
         ):

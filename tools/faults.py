@@ -1,16 +1,16 @@
 """The faults of the must-fail edits: what each changes, and where the prover is to refuse it.
 
-A check of a crate takes as long for ten faults as for one, so an edit holds several, each in another function. A fault is
+A check of a crate takes as long for ten faults as for one, so an edit holds several. A fault is
 
     # LABEL: what holds without it
-    refused: PROOF at FACT
+    refused: PROOF at FACT, FACT
     file: FILE
     old: TEXT
     new: TEXT
 
 with a line `refused:` for each proof that it breaks, and a pair `old:` and `new:` for each place that it changes. PROOF is a
 function by its path in the crate, as `time::TimePoint::since`, or a file with laws; FACT is the name of what no longer holds in
-it. `rt` reads the last three kinds of line and passes over the others.
+it. No two faults of an edit name the same fact. `rt` reads the last three kinds of line and passes over the others.
 """
 
 import re
@@ -20,19 +20,29 @@ from typing import NamedTuple
 from house import Fault as Found
 
 LABEL = re.compile(r"# (\w+): (\S.*)")
-REFUSED = re.compile(r"refused: (\S+) at (\S+)")
+REFUSED = re.compile(r"refused: (\S+) at (\S.*)")
 PARTS = ("file: ", "old: ", "new: ")
 
 
+class Fact(NamedTuple):
+    """What no longer holds, and the proof in which it stands."""
+
+    proof: str
+    name: str
+
+    def __str__(self):
+        return f"`{self.name}` of `{self.proof}`"
+
+
 class Fault(NamedTuple):
-    """A fault of an edit: its place, its name, what holds without it, its proofs with their facts, and its lines for `rt`."""
+    """A fault of an edit: its place, its name, what holds without it, the facts that it breaks, and its lines for `rt`."""
 
     file: str
     line: int
     crate: str
     label: str
     why: str
-    refused: dict
+    refused: list
     lines: list
 
 
@@ -47,11 +57,11 @@ def read_edit(root, path, found):
     for number, line in enumerate(path.read_text(encoding="utf-8").splitlines(), 1):
         label, refused = LABEL.fullmatch(line), REFUSED.fullmatch(line)
         if label:
-            faults.append(Fault(file, number, path.parents[1].name, label[1], label[2], {}, []))
+            faults.append(Fault(file, number, path.parents[1].name, label[1], label[2], [], []))
         elif line and not faults:
             found.append(Found(file, number, "stands before the first fault, `# LABEL: what holds without it`"))
         elif refused:
-            faults[-1].refused[refused[1]] = refused[2]
+            faults[-1].refused.extend(Fact(refused[1], name.strip()) for name in refused[2].split(","))
         elif line.startswith(PARTS):
             faults[-1].lines.append(line)
         elif line:
@@ -60,7 +70,7 @@ def read_edit(root, path, found):
         found.append(Found(file, 1, "has no fault"))
     for fault in faults:
         found.extend(Found(file, fault.line, f"`{fault.label}` {text}") for text in wrong_with(fault))
-    found.extend(Found(file, 1, f"`{proof}` is named by two faults") for proof in named_twice(faults))
+    found.extend(Found(file, 1, f"{fact} is named twice") for fact in named_twice(faults))
     return faults
 
 
@@ -74,12 +84,12 @@ def wrong_with(fault):
 
 
 def named_twice(faults):
-    """The proofs that two faults of an edit break: a refusal there would not say which of them is refused."""
+    """The facts that two faults of an edit break: a refusal there would not say which of them is refused."""
     seen = set()
-    for proof in (proof for fault in faults for proof in fault.refused):
-        if proof in seen:
-            yield proof
-        seen.add(proof)
+    for fact in (fact for fault in faults for fact in fault.refused):
+        if fact in seen:
+            yield fact
+        seen.add(fact)
 
 
 def read_all(root):

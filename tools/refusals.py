@@ -1,9 +1,9 @@
 #!/usr/bin/env python3
 """Holds every fault of the must-fail edits to its refusal, by what the checks of `rt ci` or `rt must-fail` said.
 
-`rt` tells that an edit is refused; its checks tell where. The proofs in which the prover refuses a fact must be those that the
-edit's faults name, each at the fact named, and no others. A proof that only rests on a refused one does not count, and one that
-no longer fits the code is no refusal: an edit keeps the shape of the code.
+`rt` tells that an edit is refused; its checks tell where. The facts that the prover refuses must be those that the edit's faults
+name, and no others. What only rests on a refused fact does not count, and a proof that no longer fits the code is no refusal: an
+edit keeps the shape of the code.
 
 Prints each fault that is not refused so, with its file and line, and ends with status 1, or prints one line of counts. With
 --form it asks only whether the edits are well formed and every public function has a fault, which needs no check. With --apart
@@ -17,7 +17,7 @@ import sys
 from pathlib import Path
 
 from contracts import Contracts
-from faults import read_all
+from faults import Fact, read_all
 from house import Fault as Found
 
 ROOT = Path(__file__).resolve().parents[1]
@@ -46,47 +46,38 @@ def proof_name(path):
 
 
 def refusals(folder, log):
-    """Proof -> the facts refused in it, by what a check of the crate in `folder` said, and the proofs that are unfit."""
-    refused, unfit = {}, {}
+    """The facts that are refused, by what a check of the crate in `folder` said, and those whose proof does not fit the code."""
+    refused, unfit = set(), set()
     start = f"{folder}/"
     for line in log.splitlines():
         unproved = UNPROVED.match(line)
         if unproved:
-            refused.setdefault(unproved[1], set()).update(re.findall(r"`([^`]+)`", unproved[2]))
+            refused.update(Fact(unproved[1], name) for name in re.findall(r"`([^`]+)`", unproved[2]))
         path, _, _ = line.removeprefix(start).partition(":")
         error = line.startswith(start) and ERROR.match(line, len(start) + len(path))
         if error and RESTS_ON_ANOTHER not in error[2]:
             kind = unfit if UNFIT.search(error[2]) or error[1].endswith(THEOREM) else refused
-            kind.setdefault(proof_name(path), set()).add(error[1])
+            kind.add(Fact(proof_name(path), error[1]))
     return refused, unfit
 
 
 def held(edit, faults, refused, unfit):
     """What is wrong with an edit's refusals."""
-    named = {proof: (fault, fact) for fault in faults for proof, fact in fault.refused.items()}
-    for proof, (fault, fact) in named.items():
-        facts = refused.get(proof, set())
-        if proof in unfit:
-            text = f"changes the shape of the code: the proof of `{proof}` does not fit at {shown(unfit[proof])}"
-        elif not facts:
-            text = f"is not refused in `{proof}`"
-        elif fact not in facts:
-            text = f"is refused in `{proof}` at {shown(facts)}, not at `{fact}`"
-        else:
-            continue
-        yield Found(fault.file, fault.line, f"`{fault.label}` {text}")
-    for proof in sorted((refused.keys() | unfit.keys()) - named.keys()):
-        text = f"`{proof}` is refused at {shown(refused.get(proof, set()) | unfit.get(proof, set()))}, and no fault names it"
-        yield Found(edit, 1, text)
-
-
-def shown(facts):
-    return ", ".join(f"`{fact}`" for fact in sorted(facts, key=str))
+    named = set()
+    for fault in faults:
+        named.update(fault.refused)
+        for fact in fault.refused:
+            if fact not in refused | unfit:
+                yield Found(fault.file, fault.line, f"`{fault.label}` is not refused at {fact}")
+    for fact in sorted(unfit):
+        yield Found(edit, 1, f"a fault changes the shape of the code: {fact} does not fit it")
+    for fact in sorted(refused - named):
+        yield Found(edit, 1, f"{fact} is refused, and no fault names it")
 
 
 def uncovered(root, edits):
     """The public functions for which there is no fault, and no reason why not."""
-    named = {f"{fault.crate}::{proof}" for faults in edits.values() for fault in faults for proof in fault.refused}
+    named = {f"{fault.crate}::{fact.proof}" for faults in edits.values() for fault in faults for fact in fault.refused}
     public = {contract.name: contract for contract in Contracts(root).all}
     for name, contract in public.items():
         if name not in named and name not in ELSEWHERE:
@@ -114,7 +105,10 @@ def write_apart(root, edits, folder):
     for fault in (fault for faults in edits.values() for fault in faults):
         edit = folder / "crates" / fault.crate / "must-fail" / f"{fault.label}.edit"
         edit.parent.mkdir(exist_ok=True)
-        where = (f"refused: {proof} at {fact}" for proof, fact in fault.refused.items())
+        facts = {}
+        for fact in fault.refused:
+            facts.setdefault(fact.proof, []).append(fact.name)
+        where = (f"refused: {proof} at {', '.join(names)}" for proof, names in facts.items())
         edit.write_text("\n".join([f"# {fault.label}: {fault.why}", *where, *fault.lines, ""]), encoding="utf-8")
 
 
@@ -137,7 +131,7 @@ def main(arguments=None):
         print(fault)
     if not found:
         faults = sum(map(len, edits.values()))
-        refused = "" if given.form or given.apart else ", each refused in its own proof at the fact that it names"
+        refused = "" if given.form or given.apart else ", each refused at the facts that it names and no other"
         print(f"refusals: {faults} faults in {len(edits)} edits{refused}")
     return 1 if found else 0
 
