@@ -412,7 +412,7 @@ def arrows(house):
 def boxes(house):
     """What the picture says of each crate."""
     for crate in house.crates:
-        code, definitions, laws, proofs, _ = figures.sizes(house.root / "crates" / crate)
+        code, definitions, laws, proofs, *_ = figures.sizes(house.root / "crates" / crate)
         kit = sorted({name for name in house.crates[crate].names if name in SHOWN_OF_THE_KIT})
         yield house_svg.Box(
             name=crate,
