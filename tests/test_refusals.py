@@ -9,8 +9,11 @@ import unittest
 from unittest import mock
 
 sys.path.insert(0, str(pathlib.Path(__file__).parents[1] / "tools"))
+import contracts  # noqa: E402
 import faults  # noqa: E402
 import refusals as tool  # noqa: E402
+
+ROOT = pathlib.Path(__file__).parents[1]
 
 EDIT = """# ends_swapped: a span goes from the earlier instant to the later
 refused: time::TimePoint::since at sub-d, returns-2
@@ -101,6 +104,10 @@ class Refusals(unittest.TestCase):
         told = self.assert_fault(1, "`more` of `proofs/Other.antt` is refused, and no fault names it")
         self.assertEqual(told.count("\n"), 1)
 
+    def test_a_refusal_without_a_name(self):
+        self.log(REFUSED + "@/proofs/Other.antt:3:1: error: no such module\n")
+        self.assert_fault(1, "`a line` of `proofs/Other.antt` is refused, and no fault names it")
+
     def test_a_function_without_a_proof_file(self):
         others = "".join(line for line in REFUSED.splitlines(True) if f"@/{SINCE}" not in line)
         text = "fn a::time::TimePoint::since: no proof: expected `x` in y; `search` does not close `sub-d` and `returns-2`\n"
@@ -135,6 +142,9 @@ class Refusals(unittest.TestCase):
             self.assertEqual(self.said("--form"), (0, "refusals: 2 faults in 1 edits\n"))
         with mock.patch.dict(tool.ELSEWHERE, {"a::time::TimePoint::since": "it has one"}):
             self.assertIn("there is a fault for `a::time::TimePoint::since`, and a reason", self.said("--form")[1])
+
+    def test_the_functions_without_a_fault_are_there(self):
+        self.assertLessEqual(tool.ELSEWHERE.keys(), {contract.name for contract in contracts.Contracts(ROOT).all})
 
     def test_the_form_needs_no_check(self):
         self.log("")

@@ -56,8 +56,9 @@ def refusals(folder, log):
         path, _, _ = line.removeprefix(start).partition(":")
         error = line.startswith(start) and ERROR.match(line, len(start) + len(path))
         if error and RESTS_ON_ANOTHER not in error[2]:
-            kind = unfit if UNFIT.search(error[2]) or error[1].endswith(THEOREM) else refused
-            kind.add(Fact(proof_name(path), error[1]))
+            name = error[1] or "a line"
+            kind = unfit if UNFIT.search(error[2]) or name.endswith(THEOREM) else refused
+            kind.add(Fact(proof_name(path), name))
     return refused, unfit
 
 
@@ -78,12 +79,11 @@ def held(edit, faults, refused, unfit):
 def uncovered(root, edits):
     """The public functions for which there is no fault, and no reason why not."""
     named = {f"{fault.crate}::{fact.proof}" for faults in edits.values() for fault in faults for fact in fault.refused}
-    public = {contract.name: contract for contract in Contracts(root).all}
-    for name, contract in public.items():
-        if name not in named and name not in ELSEWHERE:
-            yield Found(contract.file, contract.line, f"there is no fault for `{name}`, which is public")
-    for name in ELSEWHERE.keys() & named:
-        yield Found(public[name].file, public[name].line, f"there is a fault for `{name}`, and a reason why there is none")
+    for contract in Contracts(root).all:
+        if contract.name not in named | ELSEWHERE.keys():
+            yield Found(contract.file, contract.line, f"there is no fault for `{contract.name}`, which is public")
+        if contract.name in named & ELSEWHERE.keys():
+            yield Found(contract.file, contract.line, f"there is a fault for `{contract.name}`, and a reason why there is none")
 
 
 def check(root, edits):

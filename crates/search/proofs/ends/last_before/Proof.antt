@@ -1,4 +1,4 @@
--- `search::ends::last_before` meets its contract: nought less one is nought, and the difference needs no more elsewhere.
+-- `search::ends::last_before` meets its contract: it is one less, and 0 where there is nothing to take it from.
 -- Assumes nothing.
 use borrow.Author.Needs.{needs}
 use Rattle.search.proofs.ends.last_before.Statement.{statement}
