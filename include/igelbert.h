@@ -1,9 +1,14 @@
-/* The proved calls of Igelbert, for C and for whoever speaks to C.
+/* The proved calls of Igelbert, for C and for any language that can call C.
  *
- * Every call answers 0, or the number of a refusal (docs/RULES.md, section 4). Its results go to
- * `out`, a room of `out_len` 64-bit words that the caller lends: the answer's words first and zero
- * in every word after them; on a refusal zero in all of them. A room that is too small for the
- * answer is refused 12. A signed number is its two's complement; a double is its IEEE 754 pattern.
+ * Every call returns 0, or the number of a refusal (docs/RULES.md, section 4). Results are written
+ * to `out`, a buffer of `out_len` 64-bit words that the caller provides: the answer's words first,
+ * and zero in every word after them. On a refusal every word is zero, and the number is all there
+ * is. A buffer that is too small for the answer is refused 12. A signed number is written as its
+ * two's complement, a double as its IEEE 754 bits.
+ *
+ * Times are in nanoseconds: an instant counts from the start of the plan, a span is the time between
+ * two instants. Places, distances, footprints and follow buffers are in metres, velocities in metres
+ * per second, seconds only where a comment says so.
  *
  * `out` points to `out_len` words that nothing else uses during the call. The calls are compiled for
  * x86-64; link libplan_exports.a, libgeometry_exports.a and libnumber_exports.a, which
@@ -14,6 +19,29 @@
 
 #include <stddef.h>
 #include <stdint.h>
+
+/* The version of these calls. CHANGELOG.md says what changed with each; before 1.0.0 a new minor
+ * version may change a call. */
+#define IGELBERT_VERSION_MAJOR 0
+#define IGELBERT_VERSION_MINOR 1
+#define IGELBERT_VERSION_PATCH 0
+#define IGELBERT_VERSION "0.1.0"
+
+/* The refusals by name (docs/RULES.md, 4.1 to 4.12). */
+enum igelbert_refusal {
+    IGELBERT_NUMBER = 1,
+    IGELBERT_SHAPE = 2,
+    IGELBERT_BACKWARD = 3,
+    IGELBERT_NO_LINE = 4,
+    IGELBERT_CREEP = 5,
+    IGELBERT_APART = 6,
+    IGELBERT_STRAYED = 7,
+    IGELBERT_STUCK = 8,
+    IGELBERT_LATE = 9,
+    IGELBERT_FULL = 10,
+    IGELBERT_SPENT = 11,
+    IGELBERT_NO_ROOM = 12
+};
 
 #ifdef __cplusplus
 extern "C" {
@@ -26,10 +54,10 @@ uint64_t igelbert_square_root(double x, uint64_t *out, size_t out_len);
 /* Time: instants and spans in nanoseconds (docs/RULES.md, 6.1 to 6.4). One word each. */
 
 /* The span from the instant `earlier` to the instant `later`. Refused 7: an instant or the span is
- * past 2^53 in size. */
+ * past 2^53 ns in size. */
 uint64_t igelbert_span_between(int64_t earlier, int64_t later, uint64_t *out, size_t out_len);
 
-/* The instant a span after an instant. Refused 7: one of the three is past 2^53 in size. */
+/* The instant a span after an instant. Refused 7: one of the three is past 2^53 ns in size. */
 uint64_t igelbert_instant_after(int64_t instant, int64_t span, uint64_t *out, size_t out_len);
 
 /* The seconds of an instant, and of a span, as a double. */
@@ -42,7 +70,7 @@ uint64_t igelbert_instant_of_seconds(double seconds, uint64_t *out, size_t out_l
 uint64_t igelbert_span_of_seconds(double seconds, uint64_t *out, size_t out_len);
 
 /* Shapes (docs/RULES.md, section 7). A profile is a footprint and a follow buffer; a leg goes from
- * (x0, y0) at t0 to (x1, y1) at t1, times in nanoseconds. Refused 1: a number outside the table of
+ * (x0, y0) at t0 to (x1, y1) at t1. Refused 1: a number outside the table of
  * the domain (section 3). */
 
 /* How near two carts may stand, that distance times itself, and how far the one stays behind the
@@ -59,9 +87,9 @@ uint64_t igelbert_follow_distance(double footprint, double follow, double footpr
 uint64_t igelbert_box_of_leg(double footprint, double follow, int64_t t0, double x0, double y0,
     int64_t t1, double x1, double y1, uint64_t *out, size_t out_len);
 
-/* The box of an obstacle's waypoints, grown by its footprint: 1 and the four bounds, or 0 where there
- * is no waypoint. Refused 2: lists of different lengths, a single waypoint, more than 257, or times
- * that do not rise. */
+/* The box of an obstacle's waypoints, grown by its footprint: 1 and the four bounds, or 0 where
+ * there is no waypoint. Refused 2: lists of different lengths, a single waypoint, more than 257,
+ * or times that do not rise. */
 uint64_t igelbert_box_of_obstacle(double footprint, double follow, const int64_t *times,
     size_t times_len, const double *xs, size_t xs_len, const double *ys, size_t ys_len,
     uint64_t *out, size_t out_len);
@@ -73,8 +101,8 @@ uint64_t igelbert_boxes_overlap(double left, double bottom, double right, double
 /* Motion and proximity (docs/RULES.md, sections 8 and 9). Refused 1 as above; 3: the agent's leg
  * ends before it starts. */
 
-/* Where a leg of the agent's is at t, and how fast it goes: 1, x, y and the velocity's x and y; or 0
- * where its times do not hold t. */
+/* Where a leg of the agent's is at t, and how fast it goes: 1, x, y and the velocity's x and y; or
+ * 0 where its times do not hold t. */
 uint64_t igelbert_position(int64_t t0, double x0, double y0, int64_t t1, double x1, double y1,
     int64_t t, uint64_t *out, size_t out_len);
 
@@ -91,71 +119,74 @@ uint64_t igelbert_have_conflict(double footprint, double follow, int64_t t0, dou
     int64_t t1, double x1, double y1, double footprint2, double follow2, int64_t t2, double x2,
     double y2, int64_t t3, double x3, double y3, double limit, uint64_t *out, size_t out_len);
 
-/* When something that goes from (px, py) by (vx, vy) is within a squared distance of (rx, ry): 0, or
- * 2 and two doubles, in seconds. */
+/* When something that goes from (px, py) by (vx, vy) is within a squared distance of (rx, ry): 0,
+ * or 2 and two doubles, in seconds. */
 uint64_t igelbert_stationary_proximity(double rx, double ry, double px, double py, double vx,
     double vy, double limit, uint64_t *out, size_t out_len);
 
 /* Whether the agent's leg is safe among obstacles, 0, or in conflict, 1. The waypoints of all
- * obstacles stand one after another in `times`, `xs` and `ys`; `starts` says for each obstacle where
- * its own begin; `numbers` has three for each: footprint, follow buffer, conflict distance squared.
- * Refused 2: lists that do not fit one another, more than 32 obstacles or 256 legs, a single
- * waypoint, times that do not rise; 5 and 6 as the first leg's that meets them. */
+ * obstacles stand one after another in `times`, `xs` and `ys`; `starts` says for each obstacle
+ * where its own begin; `numbers` has three for each: footprint, follow buffer, conflict distance
+ * squared. Refused 2: lists that do not fit one another, more than 32 obstacles or 256 legs, a
+ * single waypoint, times that do not rise; 5: a leg creeps, and is met before any conflict. */
 uint64_t igelbert_is_safe_segment(double footprint, double follow, int64_t t0, double x0, double y0,
     int64_t t1, double x1, double y1, const size_t *starts, size_t starts_len,
     const double *numbers, size_t numbers_len, const int64_t *times, size_t times_len,
     const double *xs, size_t xs_len, const double *ys, size_t ys_len, uint64_t *out,
     size_t out_len);
 
-/* Where the agent may wait on its leg among the obstacles of such a table, and until when: the count
- * of hints, at most 64, then six words each, ranked by contour and reach: contour, reach (a double),
- * x and y (doubles), the instant until which to wait, the obstacle's number (docs/RULES.md, sections
- * 10 and 11). A room of 385 words is enough. Refused 4: the leg lasts under 10 ns, is shorter than
- * 1e-8, or meets an obstacle's leg that has no direction; 7: a time or a place went too far; 10: there
- * are more than 64 hints. */
+/* Where the agent may wait on its leg among the obstacles of such a table, and until when: the
+ * count of hints, at most 64, then six words each, ranked by contour and reach: contour (a span),
+ * reach (a double), x and y (doubles), the instant until which to wait, the obstacle's number
+ * (docs/RULES.md, sections 10 and 11). A buffer of 385 words is enough. Refused 4: the leg lasts
+ * under 10 ns, is shorter than 1e-8, or meets an obstacle's leg that has no direction; 7: a time
+ * or a place went too far; 10: there are more than 64 hints. */
 uint64_t igelbert_wait_hints(double footprint, double follow, int64_t t0, double x0, double y0,
     int64_t t1, double x1, double y1, const size_t *starts, size_t starts_len,
     const double *numbers, size_t numbers_len, const int64_t *times, size_t times_len,
     const double *xs, size_t xs_len, const double *ys, size_t ys_len, uint64_t *out,
     size_t out_len);
 
-/* When the agent may arrive at (x, y), from t on, and stand there among the obstacles of such a table:
- * how many times there are, at most 289, by how many sweeps they were found, then the times, each an
- * instant (docs/RULES.md, section 12). A room of 291 words is enough. Refused 5: an obstacle's leg
- * creeps; 8: the search is stuck, a whole sweep of pushes ends where it began. */
+/* When the agent may arrive at (x, y), from t on, and stand there among the obstacles of such a
+ * table: how many times there are, at most 289, by how many sweeps they were found, then the
+ * times, each an instant (docs/RULES.md, section 12). A buffer of 291 words is enough. Refused 5:
+ * an obstacle's leg creeps; 8: the search is stuck, a whole sweep of pushes ends where it began. */
 uint64_t igelbert_arrival_times(double footprint, double follow, int64_t t, double x, double y,
     const size_t *starts, size_t starts_len, const double *numbers, size_t numbers_len,
     const int64_t *times, size_t times_len, const double *xs, size_t xs_len, const double *ys,
     size_t ys_len, uint64_t *out, size_t out_len);
 
-/* One path of the agent's to the end of its leg for an arrival time, by way of hints that are lent as
- * igelbert_wait_hints hands them out, with at most `budget` pops. The answer stands in rows of four
- * words: whether there is a path (1 or 0), its pops, its hold (a span) and how many actions it has;
- * then a row for each action: 1, an instant, x and y (doubles) for a move; 2, the obstacle's number,
- * the end of the wait and 0 for a wait (docs/RULES.md, section 13). A room of 520 words is enough.
- * Refused 1 and 2 for the hints too; 4: the leg lasts under 10 ns or is shorter than 1e-8; 5 and 6 as
- * the first way's that meets them; 7: a time went too far; 11: the budget is spent. */
+/* One path of the agent's to the end of its leg for an arrival time, by way of hints in the form
+ * that igelbert_wait_hints writes them, with at most `budget` pops. The answer stands in rows of
+ * four words: whether there is a path (1 or 0), its pops, its hold (a span) and how many actions
+ * it has; then a row for each action: 1, an instant, x and y (doubles) for a move; 2, the
+ * obstacle's number, the end of the wait and 0 for a wait (docs/RULES.md, section 13). A buffer of
+ * 520 words is enough. Refused 1 and 2 for the hints too; 4: the leg lasts under 10 ns or is
+ * shorter than 1e-8; 5 and 6 as the first way's that meets them; 7: a time went too far; 11: the
+ * budget is spent. */
 uint64_t igelbert_arrival_path(double footprint, double follow, int64_t t0, double x0, double y0,
     int64_t t1, double x1, double y1, int64_t arrival, uint64_t budget, const size_t *starts,
     size_t starts_len, const double *numbers, size_t numbers_len, const int64_t *times,
     size_t times_len, const double *xs, size_t xs_len, const double *ys, size_t ys_len,
     const uint64_t *hints, size_t hints_len, uint64_t *out, size_t out_len);
 
-/* The whole plan for the agent's leg: its hints, the arrival times at its end, and a path for each of
- * them that has one. In `paths` stand rows of four words: how many hints, arrival times, sweeps and
- * paths there are; then for each path its arrival time, its pops, its hold and how many actions it
- * has. In `actions` stand the actions of all paths, a row each as above, one path behind another. Both
- * are all zero on a refusal; 12 where either is too small. 1,160 words are enough for `paths`, four
- * for each action for `actions`. */
+/* The whole plan for the agent's leg: its hints, the arrival times at its end, and a path for each
+ * of them that has one. In `paths` stand rows of four words: how many hints, arrival times, sweeps
+ * and paths there are; then for each path its arrival time, its pops, its hold and how many
+ * actions it has. In `actions` stand the actions of all paths, a row each as above, one path
+ * behind another. Both are all zero on a refusal; 12 where either is too small. 1,160 words are
+ * enough for `paths`, four for each action for `actions`. */
 uint64_t igelbert_linear_paths(double footprint, double follow, int64_t t0, double x0, double y0,
     int64_t t1, double x1, double y1, uint64_t budget, const size_t *starts, size_t starts_len,
     const double *numbers, size_t numbers_len, const int64_t *times, size_t times_len,
     const double *xs, size_t xs_len, const double *ys, size_t ys_len, uint64_t *paths,
     size_t paths_len, uint64_t *actions, size_t actions_len);
 
-/* The lines that the program `plan` prints for a request stream (docs/RULES.md, sections 14 and 15),
- * those of a refusal too: 0, with the text in `out` and zeros behind it; it has no zero byte. 12, and
- * zero throughout, where `out` is too small; 164,517 bytes are enough. */
+/* The whole plan for a request stream (docs/RULES.md, section 14), as the lines that the program
+ * `plan` prints (section 15): 0, with the text in `out`, one byte a letter, and zeros behind it; the
+ * text has no zero byte. A refused stream: the number of its refusal, and every byte zero; `plan`
+ * prints the number as `refused N`. 12 also where `out` is too small for the text; 164,517 bytes are
+ * enough. */
 uint64_t igelbert_plan(const uint8_t *stream, size_t stream_len, uint8_t *out, size_t out_len);
 
 #ifdef __cplusplus

@@ -1,4 +1,4 @@
-"""house.py places every citation on a file, refuses one that runs upward, and draws the same house twice."""
+"""house.py places every citation on a file, refuses one that runs upward, draws the same house twice, and prints its list."""
 
 import contextlib
 import io
@@ -16,7 +16,7 @@ ROOT = pathlib.Path(__file__).parents[1]
 
 # Three crates of three floors, with every form of citation.
 HOUSE = {
-    "crates.txt": "# low to high\nlists:\nshapes: lists\nreplay: lists shapes io libc\n",
+    "crates.txt": "## low\nlists:\n## middle\nshapes: lists\n## high\nreplay: lists shapes io libc\n",
     "crates/lists/src/lib.rt": "// Lists. Nothing else.\npub mod rows;\npub mod words;\n",
     "crates/lists/src/rows.rt": "// Rows.\nuse crate::words;\nghost use Rattle.lists.specs.Rows.{row};\n"
     "pub struct Row(u64);\npub fn put(r: Row) {\n    words::wipe(b\"x::y\");\n}\n",
@@ -38,7 +38,7 @@ HOUSE = {
     "use Rattle.lists.specs.declared.rows.Row.{Row}\n",
     "crates/replay/src/main.rt": "// Replays.\nmod calls;\nuse calls::Call;\nfn main() {\n    io::write_all(1, b\"\");\n}\n",
     "crates/replay/src/calls.rt": "// Calls.\npub enum Call {\n    One,\n}\nfn f() {\n    shapes::leg::go(u64::max());\n}\n",
-    "docs/HOUSE.md": "",
+    "docs/HOUSE.md": "| Floor | What it is for |\n|---|---|\n| low | lists |\n| middle | legs |\n| high | the program |\n",
 }
 
 
@@ -102,7 +102,6 @@ class House(unittest.TestCase):
         self.assertEqual(
             self.faults(),
             [
-                "crates/lists/proofs/Laws.antt:2: cites shapes, which is on a higher floor than lists",
                 "crates/lists/proofs/Laws.antt:2: cites shapes, which stands above lists",
                 "crates/lists/proofs/Laws.antt:2: cites shapes, which the line of lists in crates.txt does not name",
             ],
@@ -116,17 +115,18 @@ class House(unittest.TestCase):
         self.assertFalse((self.root / "docs/house.svg").exists())
 
     def test_a_line_that_names_what_stands_above(self):
-        self.write("crates.txt", "lists: shapes\nshapes: lists nowhere\nreplay: lists shapes io libc\n")
+        lines = HOUSE["crates.txt"].replace("lists:\n", "lists: shapes\n").replace("shapes: lists", "shapes: lists nowhere")
+        self.write("crates.txt", lines)
         self.assertEqual(
             self.faults(),
             [
-                "crates.txt:1: lists names shapes, which does not stand below it",
-                "crates.txt:2: shapes names nowhere, and there is no such crate",
+                "crates.txt:2: lists names shapes, which does not stand below it",
+                "crates.txt:4: shapes names nowhere, and there is no such crate",
             ],
         )
 
     def test_a_crate_that_is_reached_and_not_named(self):
-        self.write("crates.txt", "lists:\nshapes: lists\nreplay: shapes io libc\n")
+        self.write("crates.txt", HOUSE["crates.txt"].replace("replay: lists shapes", "replay: shapes"))
         self.add("crates/replay/src/calls.rt", "ghost use Rattle.lists.specs.Rows.{row};\n")
         self.assertEqual(
             self.faults(),
@@ -134,7 +134,7 @@ class House(unittest.TestCase):
         )
 
     def test_a_library_of_the_kit_that_is_not_named(self):
-        self.write("crates.txt", "lists:\nshapes: lists\nreplay: lists shapes\n")
+        self.write("crates.txt", HOUSE["crates.txt"].replace(" io libc", ""))
         self.assertEqual(
             self.faults(), ["crates/replay/src/main.rt:1: cites io, which the line of replay in crates.txt does not name"]
         )
@@ -143,19 +143,41 @@ class House(unittest.TestCase):
         # lists is wanted while a leg is made of a row, and not once it is made of a number
         leg = "// Legs.\npub struct Leg {\n    row: u64,\n}\npub fn go(l: Leg) {}\n"
         self.write("crates/shapes/src/leg.rt", leg)
-        self.assertEqual(self.faults(), ["crates.txt:4: replay names lists and cites nothing of it"])
+        self.assertEqual(self.faults(), ["crates.txt:6: replay names lists and cites nothing of it"])
 
     def test_a_crate_on_no_floor(self):
-        self.write("crates.txt", HOUSE["crates.txt"] + "cellar:\n")
+        self.write("crates.txt", "cellar:\n" + HOUSE["crates.txt"])
         self.write("crates/cellar/src/lib.rt", "// Below.\n")
-        self.assertEqual(self.faults(), ["crates.txt:5: cellar is on no floor: say which in FLOORS of tools/house.py"])
+        self.assertEqual(self.faults(), ["crates.txt:1: cellar is on no floor: no heading `## FLOOR` stands above it"])
+
+    def test_a_new_crate_is_one_line(self):
+        self.write("crates.txt", HOUSE["crates.txt"] + "attic: lists\n")
+        self.write("crates/attic/src/lib.rt", "// The attic. More.\nghost use Rattle.lists.specs.Rows.{row};\n")
+        self.assertEqual(self.faults(), [])
+        self.assertIn("### attic\n\nThe attic.\n\nCites lists. Cited by no crate.\n", self.run_tool("--list")[1])
+
+    def test_a_crate_that_does_not_say_what_it_is(self):
+        self.write("crates/shapes/src/lib.rt", "pub mod leg;\n")
+        self.assertEqual(self.faults(), ["crates/shapes/src/lib.rt:1: does not open with a comment that says what shapes is"])
+
+    def test_a_heading_twice(self):
+        self.write("crates.txt", HOUSE["crates.txt"] + "## low\n")
+        self.assertEqual(self.faults(), ["crates.txt:7: the floor low has a heading already"])
+
+    def test_a_floor_that_the_page_has_not(self):
+        self.write("crates.txt", HOUSE["crates.txt"] + "## roof\n")
+        self.assertEqual(
+            self.faults(), ["docs/HOUSE.md:1: its floors are low, middle, high; crates.txt has low, middle, high, roof"]
+        )
+        self.write("docs/HOUSE.md", "")
+        self.assertEqual(self.faults(), ["docs/HOUSE.md:1: its floors are none; crates.txt has low, middle, high, roof"])
 
     def test_a_folder_and_a_line_without_one_another(self):
         self.write("crates.txt", HOUSE["crates.txt"] + "plan:\n")
         self.write("crates/texts/src/lib.rt", "// Texts.\n")
         self.assertEqual(
             self.faults(),
-            ["crates.txt:1: crates/texts has no line", "crates.txt:5: plan has neither src/lib.rt nor src/main.rt"],
+            ["crates.txt:1: crates/texts has no line", "crates.txt:7: plan has neither src/lib.rt nor src/main.rt"],
         )
 
     def test_proofs_are_cited_by_proofs_alone(self):
@@ -195,28 +217,34 @@ class House(unittest.TestCase):
 
     def test_drawn_twice_and_then_out_of_date(self):
         self.assertEqual(self.run_tool()[0], 0)
-        first = [(self.root / name).read_text(encoding="utf-8") for name in (tool.PAGE, tool.PICTURE)]
+        first = (self.root / tool.PICTURE).read_text(encoding="utf-8")
         self.assertEqual(self.run_tool("--check"), (0, self.run_tool()[1]))
-        self.assertEqual(first, [(self.root / name).read_text(encoding="utf-8") for name in (tool.PAGE, tool.PICTURE)])
+        self.assertEqual(first, (self.root / tool.PICTURE).read_text(encoding="utf-8"))
+        self.assertEqual((self.root / tool.PAGE).read_text(encoding="utf-8"), HOUSE[tool.PAGE])
         self.add("crates/lists/specs/Base.antt", "more : N\n")
         self.assertEqual(self.run_tool("--check"), (1, "docs/house.svg:1: not what the sources say: run tools/house.py\n"))
-        self.add("crates/lists/specs/Base.antt", "use Rattle.lists.specs.declared.rows.Row.{Row}\n")
-        self.assertEqual(self.run_tool("--check"), (1, "docs/HOUSE.md:1: not what the sources say: run tools/house.py\n"))
 
-    def test_the_page(self):
-        self.run_tool()
-        page = (self.root / tool.PAGE).read_text(encoding="utf-8")
-        self.assertIn("| `src/words.rt` | Words \\| of a room that is lent (RULES 1.1). |  |  |\n", page)
-        self.assertIn("| `src/rows.rt` | Rows. | `specs/Rows.antt`, `src/words.rt` |  |\n", page)
-        self.assertIn("| `proofs/rows/` | 1 function of `src/rows.rt` meets its contract. | `proofs/Laws.antt`", page)
-        self.assertIn("| `src/main.rt` | Replays. | `src/calls.rt` | io |\n", page)
-        self.assertIn("Cites no crate. Cited by shapes.\n", page)
+    def test_the_list(self):
+        status, told = self.run_tool("--list")
+        self.assertEqual(status, 0)
+        self.assertFalse((self.root / tool.PICTURE).exists())
+        self.assertIn("## Floor 2: middle\n\n### shapes\n", told)
+        self.assertIn("| `src/words.rt` | Words \\| of a room that is lent (RULES 1.1). |  |  |\n", told)
+        self.assertIn("| `src/rows.rt` | Rows. | `specs/Rows.antt`, `src/words.rt` |  |\n", told)
+        self.assertIn("| `proofs/rows/` | 1 function of `src/rows.rt` meets its contract. | `proofs/Laws.antt`", told)
+        self.assertIn("| `src/main.rt` | Replays. | `src/calls.rt` | io |\n", told)
+        self.assertIn("Cites no crate. Cited by shapes.\n", told)
+
+    def test_no_list_of_a_house_with_a_fault(self):
+        self.add("crates/lists/src/words.rt", "use shapes::leg;\n")
+        status, told = self.run_tool("--list")
+        self.assertEqual(status, 1)
+        self.assertNotIn("## Floor", told)
 
     def test_functions_that_are_proved_together(self):
         self.write("crates/lists/proofs/rows/+put+get/Proof.antt", "-- put and get.\n")
         self.write("crates/lists/proofs/rows/Row/get/Proof.antt", "-- get of a row.\n")
-        self.run_tool()
-        self.assertIn("3 functions of `src/rows.rt` meet their contracts.", (self.root / tool.PAGE).read_text(encoding="utf-8"))
+        self.assertIn("3 functions of `src/rows.rt` meet their contracts.", self.run_tool("--list")[1])
 
     def test_no_tree(self):
         with self.assertRaisesRegex(SystemExit, "^house: .*crates.txt"):

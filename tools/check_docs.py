@@ -1,8 +1,6 @@
 #!/usr/bin/env python3
 """Holds docs/RULES.md, docs/COVERAGE.md, docs/DIFFERENCES.md and every citation of a rule against one another.
 
-A rule is a line of RULES.md that begins with its bold number (`**4.7 Strayed.**`) or a table row
-whose first cell is the number (`| 4.7 | Strayed | .. |`). A demand is numbered D1, D3a and so on.
 Prints each fault with its file and line and ends with status 1, or prints one line of counts.
 """
 
@@ -12,29 +10,17 @@ import sys
 from pathlib import Path
 from typing import NamedTuple
 
-from house import Fault
+from citations import CITED, IDENT, RULES, plain_lines, read_rules
+from coverage import COVERAGE, DERIVED_COLUMNS, NAMED, Derived, cells_of, check_rows, read_rows
+from house import CRATES, Fault
 
-RULES = "docs/RULES.md"
-COVERAGE = "docs/COVERAGE.md"
 DIFFERENCES = "docs/DIFFERENCES.md"
 ORACLE_TESTS = "oracle/planner/tests/*.rs"
-CITING = ("crates/**/*.rt", "crates/**/*.antt", "oracle/**/*.rs", "include/*.h", "docs/*.md")
-COLUMNS = ("Rule", "What", "Defined", "Proved", "Run")
-
-IDENT = r"(?:\d+\.\d+|D\d+[a-z]?)"
-SECTION = re.compile(r"## (\d+) ")
-RULE = re.compile(rf"(?:\*\*|\|\s*)({IDENT})(?![\w.])")
-
-# A backticked path, and the backticked names right after it: `crates/a/b.rt` `f`, `g` and `h`
-NAMED = re.compile(r"`([^`\s]*/[^`\s]*\.\w+)`((?:\s+`[^`/\s]+`(?:(?:,|,? and)\s+`[^`/\s]+`)*)?)")
-
-# A gap may be the end of a line, with the sign of a comment on the next: a citation may run on.
-GAP = r"(?:[ \t]+|[ \t]*\n[ \t]*(?:(?://[/!]?|--|\*)[ \t]*)?)"
-AND = rf"(?:,{GAP}(?:(?:and|or){GAP})?|{GAP}(?:and|or|to){GAP})"
-CITED = re.compile(
-    rf"\b(?:RULES(?:\.md)?`?,?|[Rr]ules?){GAP}"
-    rf"(?:(?:sections?{GAP})?({IDENT}(?:{AND}{IDENT})*)|sections?{GAP}(\d+(?:{AND}\d+)*))"
-)
+# What tells a newcomer where things are, and the paths in it, some of which stand for many.
+GUIDES = ("README.md", "CONTRIBUTING.md", "CHANGELOG.md", "docs/HOUSE.md", "docs/landings/README.md")
+GUIDED = re.compile(r"`((?:crates|docs|examples|include|oracle|tests|tools)/[\w./-]+)`|\]\(([\w./-]+)\)")
+FOR_MANY = re.compile(r"\b(?:CRATE|FUNCTION|LAYER|MODULE|NAME)\b")
+CITING = ("crates/**/*.rt", "crates/**/*.antt", "oracle/**/*.rs", "include/*.h", "*.md", "docs/**/*.md")
 
 
 class Counts(NamedTuple):
@@ -45,86 +31,15 @@ class Counts(NamedTuple):
 
     def __str__(self):
         return (
-            f"docs agree: {self.rules} rules and demands, {self.rows} rows, "
+            f"docs agree: {self.rules} rules and demands, {self.rows} of them with a row by hand, "
             f"{self.open_rows} rows with something open, {self.citations} citations"
         )
 
 
-def plain_lines(text):
-    """The lines outside fenced blocks, each with its number."""
-    fenced = False
-    for number, line in enumerate(text.splitlines(), 1):
-        if line.startswith("```"):
-            fenced = not fenced
-        elif not fenced:
-            yield number, line
-
-
-def read_rules(text, faults):
-    """The line of each rule, and the sections."""
-    places, sections, last = {}, set(), 0
-    section = 0
-    for number, line in plain_lines(text):
-        heading = SECTION.match(line)
-        if heading:
-            here = int(heading[1])
-            if here != section + 1:
-                faults.append(Fault(RULES, number, f"section {here} follows section {section}"))
-            section, last = here, 0
-            sections.add(str(here))
-            continue
-        found = RULE.match(line)
-        if not found:
-            continue
-        rule = found[1]
-        if rule in places:
-            faults.append(Fault(RULES, number, f"rule {rule} is numbered twice, first on line {places[rule]}"))
-            continue
-        places[rule] = number
-        if rule.startswith("D"):
-            continue
-        major, minor = map(int, rule.split("."))
-        if major != section:
-            faults.append(Fault(RULES, number, f"rule {rule} stands in section {section}"))
-        elif minor != last + 1:
-            faults.append(Fault(RULES, number, f"rule {rule} stands where {section}.{last + 1} is due"))
-        last = minor
-    return places, sections
-
-
-def cells_of(line):
-    inner = line.strip()[1:]
-    if inner.endswith("|"):
-        inner = inner[:-1]
-    return [cell.strip() for cell in inner.split("|")]
-
-
-def read_rows(text, rules, faults):
-    """The line of each rule's row, and how many rows have something open."""
-    places, open_rows = {}, 0
-    for number, line in plain_lines(text):
-        if not line.startswith("|"):
-            continue
-        cells = cells_of(line)
-        if cells[0] == COLUMNS[0] or all(re.fullmatch(r":?-+:?", cell) for cell in cells):
-            continue
-        rule = cells[0]
-        if rule not in rules:
-            faults.append(Fault(COVERAGE, number, f"the row `{rule}` names no rule"))
-        elif rule in places:
-            faults.append(Fault(COVERAGE, number, f"rule {rule} has a row already, on line {places[rule]}"))
-        else:
-            places[rule] = number
-        if len(cells) != len(COLUMNS):
-            faults.append(Fault(COVERAGE, number, f"the row `{rule}` has {len(cells)} cells, not {len(COLUMNS)}"))
-        for column, cell in zip(COLUMNS, cells):
-            if not cell:
-                faults.append(Fault(COVERAGE, number, f"the row `{rule}` has nothing under {column}; say `open`"))
-        open_rows += any(re.search(r"\bopen\b", re.sub(r"`[^`]*`", "", cell)) for cell in cells[2:])
-    for rule, line in rules.items():
-        if rule not in places:
-            faults.append(Fault(RULES, line, f"rule {rule} has no row in {COVERAGE}"))
-    return places, open_rows
+def open_rows(rows):
+    """How many rows have something open, which a name of code does not mean."""
+    cells = ([row.cells[column] for column in DERIVED_COLUMNS] for row in rows.values())
+    return sum(any(re.search(r"\bopen\b", re.sub(r"`[^`]*`", "", cell)) for cell in row) for row in cells)
 
 
 def check_paths(text, root, faults):
@@ -159,6 +74,17 @@ def check_differences(root, faults):
                 faults.append(Fault(DIFFERENCES, number, f"`{name}` is no test of the oracle, and no file"))
 
 
+def check_guides(root, faults):
+    """Each path that a guide names is there."""
+    for name in GUIDES:
+        text = (root / name).read_text(encoding="utf-8") if (root / name).is_file() else ""
+        for number, line in enumerate(text.splitlines(), 1):
+            for path, link in GUIDED.findall(line):
+                place = root / path if path else (root / name).parent / link
+                if not FOR_MANY.search(path) and not place.exists():
+                    faults.append(Fault(name, number, f"there is no {path or link}"))
+
+
 def check_citations(root, rules, sections, faults):
     """Each citation in code, definitions, oracle, header and papers names a rule or a section that there is."""
     count = 0
@@ -181,16 +107,18 @@ def check_citations(root, rules, sections, faults):
 def check(root):
     """The faults of the tree under root, and its counts."""
     faults = []
-    missing = [name for name in (RULES, COVERAGE, DIFFERENCES) if not (root / name).is_file()]
+    missing = [name for name in (RULES, COVERAGE, DIFFERENCES, CRATES) if not (root / name).is_file()]
     if missing:
         return [Fault(name, 1, "the file is missing") for name in missing], Counts(0, 0, 0, 0)
     coverage = (root / COVERAGE).read_text(encoding="utf-8")
     rules, sections = read_rules((root / RULES).read_text(encoding="utf-8"), faults)
-    rows, open_rows = read_rows(coverage, rules, faults)
+    rows = read_rows(coverage, rules, faults)
+    check_rows(rules, rows, Derived(root, rules, rows), faults)
     check_paths(coverage, root, faults)
     check_differences(root, faults)
+    check_guides(root, faults)
     citations = check_citations(root, rules, sections, faults)
-    return sorted(faults), Counts(len(rules), len(rows), open_rows, citations)
+    return sorted(faults), Counts(len(rules), len(rows), open_rows(rows), citations)
 
 
 def main(arguments=None):

@@ -1,11 +1,13 @@
 #!/usr/bin/env python3
-"""Draws the house, docs/HOUSE.md and docs/house.svg, from the sources, and says where a layer leans on one above it.
+"""Draws the house, docs/house.svg, from crates.txt and the sources, and says where a layer leans on one above it.
 
-With --check it writes nothing, and fails where the two files are not what the sources say.
-Prints each fault with its file and line and ends with status 1, or prints one line of counts.
+With --check it writes nothing, and fails where the picture is not what the sources say. With --list it prints every crate and
+file, what each says of itself and whom it cites. Prints each fault with its file and line and ends with status 1, or prints one
+line of counts.
 """
 
 import argparse
+import os
 import re
 import sys
 from pathlib import Path
@@ -18,22 +20,14 @@ PAGE = "docs/HOUSE.md"
 PICTURE = "docs/house.svg"
 CRATES = "crates.txt"
 
-# The floors from low to high, and the crates of each. A name may stand here before its crate is there.
-FLOORS = {
-    "numbers": "lists floats root patterns numbers",
-    "geometry": "shapes limits motions proximity conflicts courses lines obstacles boxing examining segments",
-    "hints": "waits waiting chasing sawtooth following ranking lending finding hints",
-    "search": "arrivals nearing search search_claims chains ways choosing paths actions asking arrival_paths lone_paths plans planning"
-    " path_claims refusal_claims",
-    "program": "handing time_handing hint_handing arrival_handing taking number_exports geometry_exports plan_exports texts wording"
-    " telling streams requests answering marked contracts plan replay",
-}
-FLOOR_OF = {crate: number for number, crates in enumerate(FLOORS.values()) for crate in crates.split()}
-
 # The kit's libraries, which stand outside the house.
 KIT = ("std", "check", "libc", "io", "os", "bytes")
 SHOWN_OF_THE_KIT = ("io", "os", "libc")
 PRIMITIVE = re.compile(r"(?:[iu](?:8|16|32|64|size)|f32|f64|bool)$")
+
+# A heading of crates.txt, which begins a floor, and a row of the page's table of floors.
+HEADING = re.compile(r"## (\w+)$")
+FLOOR_ROW = re.compile(r"^\| (\w+) \| (?!What )", re.M)
 
 KINDS = {"src": ("rt", "//"), "specs": ("antt", "--"), "proofs": ("antt", "--")}
 OUTSIDE_CODE = {
@@ -60,10 +54,11 @@ class Fault(NamedTuple):
 
 
 class Listed(NamedTuple):
-    """A crate's line of crates.txt: its number, and the crates and libraries that it names."""
+    """A crate's line of crates.txt: its number, the crates and libraries that it names, and its floor, -1 where it has none."""
 
     line: int
     names: tuple
+    floor: int
 
 
 class Cited(NamedTuple):
@@ -114,7 +109,7 @@ class House:
 
     def __init__(self, root):
         self.root, self.faults = root, []
-        self.crates = read_crates((root / CRATES).read_text(encoding="utf-8"), self.faults)
+        self.crates, self.floors = read_crates((root / CRATES).read_text(encoding="utf-8"), self.faults)
         self.place = {crate: number for number, crate in enumerate(self.crates)}
         self.sources = {source.file: source for source in read_sources(root, self.crates)}
         for source in self.sources.values():
@@ -141,9 +136,14 @@ class House:
 
 
 def read_crates(text, faults):
-    """The lines of crates.txt, by crate and in their order."""
-    crates = {}
+    """The lines of crates.txt, by crate and in their order, and the floors that its headings name."""
+    crates, floors = {}, []
     for number, line in enumerate(text.splitlines(), 1):
+        heading = HEADING.match(line)
+        if heading and heading[1] in floors:
+            faults.append(Fault(CRATES, number, f"the floor {heading[1]} has a heading already"))
+        elif heading:
+            floors.append(heading[1])
         said = line.split("#")[0].strip()
         if not said:
             continue
@@ -151,8 +151,8 @@ def read_crates(text, faults):
         if not colon or name.strip() in crates:
             faults.append(Fault(CRATES, number, f"`{said}` is not a crate's one line, NAME: what it stands on"))
             continue
-        crates[name.strip()] = Listed(number, tuple(names.split()))
-    return crates
+        crates[name.strip()] = Listed(number, tuple(names.split()), len(floors) - 1)
+    return crates, floors
 
 
 def read_sources(root, crates):
@@ -307,10 +307,13 @@ def check_list(house):
     """Each crate's line: its folder is there, it is on a floor, and what it names stands before it and is used."""
     parts = parts_of_items(house)
     for crate, listed in house.crates.items():
-        if not house.root_file(crate):
+        root_file = house.root_file(crate)
+        if not root_file:
             house.fault(CRATES, listed.line, f"{crate} has neither src/lib.rt nor src/main.rt")
-        if crate not in FLOOR_OF:
-            house.fault(CRATES, listed.line, f"{crate} is on no floor: say which in FLOORS of tools/house.py")
+        elif not house.sources[root_file].opening():
+            house.fault(root_file, 1, f"does not open with a comment that says what {crate} is")
+        if listed.floor < 0:
+            house.fault(CRATES, listed.line, f"{crate} is on no floor: no heading `## FLOOR` stands above it")
         used = reached(house, crate, parts)
         for name in listed.names:
             if name in KIT:
@@ -327,7 +330,7 @@ def check_list(house):
 
 
 def check_between(house):
-    """Each citation of another crate: it is named, stands below, and is on no higher floor."""
+    """Each citation of another crate: it is named, and stands below, so it is on no higher floor."""
     for source in house.sources.values():
         here, named = source.crate, (*house.crates[source.crate].names, source.crate)
         for cited in source.cited:
@@ -336,8 +339,6 @@ def check_between(house):
                 house.fault(source.file, cited.line, f"cites {there}, which the line of {here} in {CRATES} does not name")
             if house.place[there] > house.place[here]:
                 house.fault(source.file, cited.line, f"cites {there}, which stands above {here}")
-            if FLOOR_OF.get(there, -1) > FLOOR_OF.get(here, len(FLOORS)):
-                house.fault(source.file, cited.line, f"cites {there}, which is on a higher floor than {here}")
         for library in sorted(source.kit - {"std", *named}):
             house.fault(source.file, 1, f"cites {library}, which the line of {here} in {CRATES} does not name")
 
@@ -388,10 +389,17 @@ def check_declared(house):
             house.fault(source.file, 1, f"the file is declared {where}")
 
 
+def check_page(house):
+    """The page has a row for each floor, in their order."""
+    told = FLOOR_ROW.findall((house.root / PAGE).read_text(encoding="utf-8"))
+    if told != house.floors:
+        house.fault(PAGE, 1, f"its floors are {', '.join(told) or 'none'}; {CRATES} has {', '.join(house.floors) or 'none'}")
+
+
 def check(root):
     """The house under root, with all its faults."""
     house = House(root)
-    for rule in (check_list, check_between, check_kinds, check_cycles, check_declared):
+    for rule in (check_list, check_between, check_kinds, check_cycles, check_declared, check_page):
         rule(house)
     house.faults = sorted(set(house.faults))
     return house
@@ -416,7 +424,7 @@ def boxes(house):
         kit = sorted({name for name in house.crates[crate].names if name in SHOWN_OF_THE_KIT})
         yield house_svg.Box(
             name=crate,
-            floor=FLOOR_OF[crate],
+            floor=house.crates[crate].floor,
             purpose=house.sources[house.root_file(crate)].opening(),
             files=len(house.of(crate)),
             sizes=(code, definitions, laws + proofs),
@@ -463,38 +471,18 @@ def row(house, name, sentence, sources):
     return f"| `{name}` | {cell(sentence)} | {listing(inside)} | {', '.join([*outside, *kit])} |"
 
 
-HEAD = """# The house
+LIST_HEAD = """# Every crate and file
 
-The crates and their files, and who cites whom. `tools/house.py` draws this page and its picture from `crates.txt` and the sources, and `tools/house.py --check` fails where they are not what the sources say, so neither can drift.
-
-![The crates of the house in five floors, with an arrow from each to those that it cites](house.svg)
-
-An arrow runs from a crate to one that it cites; where another arrow leads there already, it is left out. Every arrow runs downward. Lines are those that are neither blank nor a comment alone; those of proofs count laws and the proofs of functions.
-
-## What is held
-
-Each of these is a fault, with its file and line, where it does not hold:
-
-- A crate cites only crates that its own line of `crates.txt` names, and those stand before it there. That one of them reaches another is not enough, and the prover refuses it too; the order of the lines is a rule of this house alone.
-- A crate names no crate without a use for it: it cites it, or what it cites is made of a type declared there, and then the prover wants it named.
-- No crate cites one of a higher floor, and every crate is on a floor.
-- Definitions (`specs/`) never cite proofs. Code (`src/`) cites code and definitions, never proofs.
-- Within a crate the files of `src/` cite one another without a circle, and so do those of `specs/` and those of `proofs/`.
-- Every file of `specs/` and `proofs/` is declared in its `Lib.antt`, and every file of `src/` by a `mod`.
-- Every name of a crate of the house, in code, definitions and proofs, leads to a file that is there.
-
-A definition may cite a type that its crate's code declares (`specs.declared`), and the code's contracts cite the definition: a type says nothing of a contract, so this is no circle. The kit's libraries are outside the house. `Lib.antt` is in no table, since it only declares the others. The proofs of a module's functions have one row; a function that the prover sees through by itself has no file there.
+From `crates.txt` and the sources. `Lib.antt` is in no table, since it only declares the others. The proofs of a module's functions have one row; a function that the prover sees through by itself has no file there.
 """
 
 
-def page(house):
-    """docs/HOUSE.md."""
-    parts = [HEAD]
-    for number, floor in enumerate(FLOORS):
-        crates = [crate for crate in house.crates if FLOOR_OF[crate] == number]
-        if crates:
-            parts.append(f"## Floor {number + 1}: {floor}\n")
-        for crate in crates:
+def full_list(house):
+    """Every crate and file, what each says of itself and whom it cites, by floor."""
+    parts = [LIST_HEAD]
+    for number, floor in enumerate(house.floors):
+        parts.append(f"## Floor {number + 1}: {floor}\n")
+        for crate in (crate for crate, listed in house.crates.items() if listed.floor == number):
             above = [other for other in house.crates if crate in house.cites(other)]
             parts.append(f"### {crate}\n")
             parts.append(f"{cell(house.sources[house.root_file(crate)].opening())}\n")
@@ -506,21 +494,32 @@ def page(house):
 
 def draw(house):
     """Each file to be written, and what it is to say."""
-    return {PAGE: page(house), PICTURE: house_svg.draw(list(FLOORS), list(boxes(house)), arrows(house))}
+    return {PICTURE: house_svg.draw(house.floors, list(boxes(house)), arrows(house))}
 
 
 def counts(house):
     """What is said where nothing is wrong."""
     cited = sum(len(source.cited) for source in house.sources.values())
     drawn = sum(map(len, arrows(house).values()))
-    there = f"{len(house.crates)} crates, {len(house.sources)} files, {cited} citations, {drawn} arrows"
+    floors, crates = len(house.floors), len(house.crates)
+    there = f"{crates} crates on {floors} floors, {len(house.sources)} files, {cited} citations, {drawn} arrows"
     return f"the house stands: {there}, none upward"
 
 
-def run(tool, about, check, draw, counts, arguments):
-    """The command of a tool that writes pages from the sources, and holds them to these with --check."""
+def tell(text):
+    """Prints a long text; that its reader stops early, as `head` does, is no fault."""
+    try:
+        print(text, end="", flush=True)
+    except BrokenPipeError:
+        os.dup2(os.open(os.devnull, os.O_WRONLY), sys.stdout.fileno())
+
+
+def run(tool, about, check, draw, counts, arguments, full_list=None):
+    """The command of a tool that writes pages from the sources, holds them to these with --check, and prints with --list."""
     parser = argparse.ArgumentParser(description=about.splitlines()[0])
     parser.add_argument("--check", action="store_true", help="write nothing, and fail where a page is out of date")
+    if full_list:
+        parser.add_argument("--list", action="store_true", help="write nothing, and print what is too long for a page")
     parser.add_argument("--root", type=Path, default=Path(__file__).resolve().parent.parent, metavar="DIR")
     asked = parser.parse_args(arguments)
     try:
@@ -528,6 +527,9 @@ def run(tool, about, check, draw, counts, arguments):
         if found.faults:
             print(*found.faults, sep="\n")
             return 1
+        if full_list and asked.list:
+            tell(full_list(found))
+            return 0
         for name, text in draw(found).items():
             file = asked.root / name
             if not asked.check:
@@ -542,7 +544,7 @@ def run(tool, about, check, draw, counts, arguments):
 
 
 def main(arguments=None):
-    return run("house", __doc__, check, draw, counts, arguments)
+    return run("house", __doc__, check, draw, counts, arguments, full_list)
 
 
 if __name__ == "__main__":

@@ -33,7 +33,7 @@ TWINS = "an instant's and a span's are the same line, which an edit cannot tell 
 ELSEWHERE = {
     f"numbers::time::{kind}::{name}": TWINS.format(called)
     for kind in ("TimePoint", "Duration")
-    for name, called in (("is_in_reach", "in_reach"), ("as_secs_f64", "seconds_of"))
+    for name, called in (("is_exact", "is_exact"), ("as_secs_f64", "seconds_of"))
 }
 
 
@@ -78,8 +78,12 @@ def held(edit, faults, refused, unfit):
 
 def uncovered(root, edits):
     """The public functions for which there is no fault, and no reason why not."""
-    named = {f"{fault.crate}::{fact.proof}" for faults in edits.values() for fault in faults for fact in fault.refused}
-    for contract in Contracts(root).all:
+    refused = {(fault.crate, *fact) for faults in edits.values() for fault in faults for fact in fault.refused}
+    named = {f"{crate}::{proof}" for crate, proof, _ in refused}
+    public = Contracts(root).all
+    # a fault may leave the code right and the contract open: what is refused is then that there is no second answer
+    named |= {contract.name for contract in public if (contract.crate, "proofs/Public.antt", contract.theorem) in refused}
+    for contract in public:
         if contract.name not in named | ELSEWHERE.keys():
             yield Found(contract.file, contract.line, f"there is no fault for `{contract.name}`, which is public")
         if contract.name in named & ELSEWHERE.keys():

@@ -12,13 +12,13 @@ use Rattle.lists.proofs.Fours.{length-rows}
 use Rattle.numbers.specs.declared.time.Duration.{Duration}
 use Rattle.shapes.specs.declared.waypoint.Waypoint.{Waypoint}
 use Rattle.waits.specs.declared.hint.WaitHint.{WaitHint}
-use Rattle.ranking.specs.Hints.{blank}
+use Rattle.ranking.specs.Hints.{blankRanked}
 use Rattle.ranking.specs.declared.order.RankedHint.{RankedHint}
-use Rattle.ways.specs.Travel.{waypointOf}
+use Rattle.ways.specs.Travel.{hintWaypoint}
 use Rattle.ways.specs.declared.trip.Trip.{Trip}
 use Rattle.actions.specs.Action.{actionWords, actionRows}
-use Rattle.actions.specs.Built.{Built, Of, Refused, stopped, ended, before, andOn, built, hintsAt, unheld}
-use Rattle.actions.specs.Laid.{Put, holdOf}
+use Rattle.actions.specs.Built.{Built, Of, Refused, stopped, ended, inFront, andOn, built, hintsAt, unheld}
+use Rattle.actions.specs.Laid.{PutActions, holdOf}
 use Rattle.actions.specs.declared.action.SafeAction.{SafeAction}
 use Rattle.actions.specs.declared.building.Hold.{Hold}
 use Rattle.actions.specs.declared.building.Hold.the-variants as H
@@ -26,20 +26,20 @@ use Rattle.actions.proofs.Rowed.{actions-fours, rows-behind}
 use Rattle.actions.proofs.Known.{actionsOf, held-is, unheld-is}
 use Rattle.actions.proofs.Counted.{Counts, stopped-counts}
 
-before-none : (b : Built) → b ≡ before [] b
+before-none : (b : Built) → b ≡ inFront [] b
 before-none (Of actions hold) = refl
 before-none (Refused n) = refl
 
-before-both : (done more : List SafeAction) (b : Built) → before done (before more b) ≡ before (done ++ more) b
+before-both : (done more : List SafeAction) (b : Built) → inFront done (inFront more b) ≡ inFront (done ++ more) b
 before-both done more (Of actions hold) = rw (append-assoc done more actions)
 before-both done more (Refused n) = refl
 
-hold-before : (done : List SafeAction) (b : Built) → holdOf b ≡ holdOf (before done b)
+hold-before : (done : List SafeAction) (b : Built) → holdOf b ≡ holdOf (inFront done b)
 unfolding holdOf
 hold-before done (Of actions hold) = refl
 hold-before done (Refused n) = refl
 
-before-refused : (done : List SafeAction) (b : Built) (n : ℕ) → before done b ≡ Refused n → b ≡ Refused n
+before-refused : (done : List SafeAction) (b : Built) (n : ℕ) → inFront done b ≡ Refused n → b ≡ Refused n
 before-refused done (Of actions hold) n e = cc
 before-refused done (Refused m) n e = e
 
@@ -60,7 +60,7 @@ module _ (trip : Trip) (hints : List RankedHint) (links : List ℕ) (lent : List
     pub counted : length done ≡ 2 * k
     pub place : at ≡ row + length done
     pub rows : left ≡ withRows lent row (actionRows done)
-    pub on : wholeOf trip hints links ≡ before done (restOf trip hints links from hold k)
+    pub on : wholeOf trip hints links ≡ inFront done (restOf trip hints links from hold k)
 
   pub going-begin : Going (trip .leg .start) unheld row 0 lent
   unfolding withRows
@@ -92,7 +92,7 @@ module _
     more-rows more e = e ∙ rw (g .rows, g .place) (rows-behind actionWords lent row (g .done) more)
 
     -- What is put behind the rows so far, where the whole is those and that.
-    rows-of : {left' : List ℕ} (b : Built) → whole ≡ before (g .done) b →
+    rows-of : {left' : List ℕ} (b : Built) → whole ≡ inFront (g .done) b →
         ((more : List SafeAction) (d : Duration) → b ≡ Of more d → left' ≡ withRows left at (actionRows more)) →
         (actions : List SafeAction) (d : Duration) → whole ≡ Of actions d → left' ≡ withRows lent row (actionRows actions)
     rows-of (Of more d') w put actions d e =
@@ -100,8 +100,8 @@ module _
         ap (λ (l : List SafeAction). withRows lent row (actionRows l)) (ap actionsOf (sym w ∙ e))
     rows-of (Refused n) w put actions d e = let no : Refused n ≡ Of actions d = sym w ∙ e in cc
 
-    put-whole : {left' : List ℕ} {r : Hold} (b : Built) → whole ≡ before (g .done) b →
-        Put b left left' at r → Put whole lent left' row r
+    put-whole : {left' : List ℕ} {r : Hold} (b : Built) → whole ≡ inFront (g .done) b →
+        PutActions b left left' at r → PutActions whole lent left' row r
     put-whole b w p =
         record {
           hold = p .hold ∙ hold-before (g .done) b ∙ ap holdOf (sym w);
@@ -116,16 +116,16 @@ module _
 
     -- The last move ends it.
     pub going-end : {left' : List ℕ} {r : Hold} → length links ≤ k →
-        Put (ended trip from hold) left left' at r → Put whole lent left' row r
-    going-end past p = put-whole (ended trip from hold) (g .on ∙ ap (before (g .done)) (at-end past)) p
+        PutActions (ended trip from hold) left left' at r → PutActions whole lent left' row r
+    going-end past p = put-whole (ended trip from hold) (g .on ∙ ap (inFront (g .done)) (at-end past)) p
 
     -- The hint at link k.
-    module _ (h : WaitHint) (there : k < length links) (e : h ≡ getD hints (getD links k 0) blank .hint) where
+    module _ (h : WaitHint) (there : k < length links) (e : h ≡ getD hints (getD links k 0) blankRanked .hint) where
       abbrev next : Duration → Built
-      next sum = rest (waypointOf h) sum (k + 1)
+      next sum = rest (hintWaypoint h) sum (k + 1)
 
       abbrev stopAt : WaitHint → ℕ → Built
-      stopAt x m = andOn (stopped trip from x hold) (λ sum. rest (waypointOf x) sum m)
+      stopAt x m = andOn (stopped trip from x hold) (λ sum. rest (hintWaypoint x) sum m)
 
       at-link : rest from hold k ≡ andOn (stopped trip from h hold) next
       unfolding built hintsAt
@@ -136,16 +136,16 @@ module _
 
       -- A refusal ends it,
       pub going-refused : {left' : List ℕ} {r : Hold} (n : ℕ) → r ≡ H.Refused n →
-          Put (stopped trip from h hold) left left' at r → Put whole lent left' row r
+          PutActions (stopped trip from h hold) left left' at r → PutActions whole lent left' row r
       going-refused n f p =
           let b : Built = stopped trip from h hold in
           let ends = refused-on b next n (unheld-is b n (sym (p .hold) ∙ f)) in
-          put-whole b (g .on ∙ ap (before (g .done)) (at-link ∙ ends)) p
+          put-whole b (g .on ∙ ap (inFront (g .done)) (at-link ∙ ends)) p
 
       -- and a hold goes on.
       pub going-on : {left' : List ℕ} {r : Hold} (sum : Duration) → r ≡ H.Of sum →
-          Put (stopped trip from h hold) left left' at r →
-          Going trip hints links lent row (waypointOf h) sum (at + 2) (k + 1) left'
+          PutActions (stopped trip from h hold) left left' at r →
+          Going trip hints links lent row (hintWaypoint h) sum (at + 2) (k + 1) left'
       going-on sum f p =
           let b : Built = stopped trip from h hold in
           let more : List SafeAction = actionsOf b in
@@ -158,6 +158,6 @@ module _
             place = omega (arith, g .place);
             rows = more-rows more (p .rows more sum is);
             on =
-                g .on ∙ ap (before (g .done)) (at-link ∙ ap (λ (x : Built). andOn x next) is) ∙
+                g .on ∙ ap (inFront (g .done)) (at-link ∙ ap (λ (x : Built). andOn x next) is) ∙
                 before-both (g .done) more (next sum);
           }

@@ -5,21 +5,22 @@ use mathlib.Core.Path.{_≡_, refl}
 use mathlib.Core.List.{List, [], _∷_, map}
 use native.Mathlib.Omega.{arith}
 use lib.ListN.{length, getD, length-append, length-map, length-take}
+use Rattle.numbers.specs.Time.{withSpan}
 use Rattle.numbers.specs.declared.time.Duration.{Duration}
 use Rattle.numbers.specs.declared.time.Span.{Span}
 use Rattle.numbers.specs.declared.time.Span.the-variants as S
 use Rattle.shapes.specs.Leg.{placeOf}
 use Rattle.shapes.specs.declared.waypoint.Waypoint.{Waypoint}
 use Rattle.waits.specs.declared.hint.WaitHint.{WaitHint}
-use Rattle.ranking.specs.Hints.{blank}
+use Rattle.ranking.specs.Hints.{blankRanked}
 use Rattle.ranking.specs.declared.order.RankedHint.{RankedHint}
 use Rattle.chains.specs.Handed.{linksIn}
 use Rattle.chains.specs.declared.tried.Chain.{Chain}
-use Rattle.ways.specs.Travel.{waypointOf, reachedFrom}
+use Rattle.ways.specs.Travel.{hintWaypoint, reachedFrom, withReached}
 use Rattle.ways.specs.declared.travel.Reached.{Reached}
 use Rattle.ways.specs.declared.travel.Reached.the-variants as W
 use Rattle.ways.specs.declared.trip.Trip.{Trip}
-use Rattle.actions.specs.Built.{Built, Of, Refused, reaching, spanning, before, andOn}
+use Rattle.actions.specs.Built.{Built, Of, Refused, inFront, andOn}
 use Rattle.actions.specs.Built.{holdAfter, stopped, ended, built, hintsAt, unheld}
 use Rattle.actions.specs.declared.action.SafeAction.{SafeAction}
 
@@ -29,16 +30,16 @@ Counts n (Of actions hold) = length actions ≡ n
 Counts n (Refused k) = Unit {0}
 
 reaching-counts : (n : ℕ) (r : Reached) (go : Waypoint → Built) →
-    ((w : Waypoint) → Counts n (go w)) → Counts n (reaching r go)
+    ((w : Waypoint) → Counts n (go w)) → Counts n (withReached Refused r go)
 reaching-counts n (W.At w) go h = h w
 reaching-counts n (W.Refused k) go h = tt
 
 spanning-counts : (n : ℕ) (s : Span) (go : Duration → Built) →
-    ((d : Duration) → Counts n (go d)) → Counts n (spanning s go)
+    ((d : Duration) → Counts n (go d)) → Counts n (withSpan (Refused 7) s go)
 spanning-counts n (S.Of d) go h = h d
 spanning-counts n S.Strayed go h = tt
 
-before-counts : (done : List SafeAction) (n : ℕ) (b : Built) → Counts n b → Counts (length done + n) (before done b)
+before-counts : (done : List SafeAction) (n : ℕ) (b : Built) → Counts n b → Counts (length done + n) (inFront done b)
 before-counts done n (Of actions hold) h = omega (arith, length-append done actions)
 before-counts done n (Refused k) h = tt
 
@@ -63,19 +64,19 @@ built-counts : (trip : Trip) (from : Waypoint) (hold : Duration) (hints : List W
 unfolding built
 built-counts trip from hold [] = ended-counts trip from hold
 built-counts trip from hold (h ∷ hs) =
-    let next : Duration → Built = λ sum. built trip (waypointOf h) sum hs in
+    let next : Duration → Built = λ sum. built trip (hintWaypoint h) sum hs in
     let all : 2 + (2 * length hs + 1) ≡ 2 * length (h ∷ hs) + 1 = omega arith in
     rw (← all)
     (on-counts 2 (2 * length hs + 1) (stopped trip from h hold) next (stopped-counts trip from h hold)
-    (λ sum. built-counts trip (waypointOf h) sum hs))
+    (λ sum. built-counts trip (hintWaypoint h) sum hs))
 
 -- Along a chain.
 pub chain-counts : (trip : Trip) (hints : List RankedHint) (links : List ℕ) →
     Counts (2 * length links + 1) (built trip (trip .leg .start) unheld (hintsAt hints links))
 unfolding hintsAt
 chain-counts trip hints links =
-    let stops : List WaitHint = map (λ i. getD hints i blank .hint) links in
-    let same : length stops ≡ length links = length-map links (λ i. getD hints i blank .hint) in
+    let stops : List WaitHint = map (λ i. getD hints i blankRanked .hint) links in
+    let same : length stops ≡ length links = length-map links (λ i. getD hints i blankRanked .hint) in
     rw (← same) (built-counts trip (trip .leg .start) unheld stops)
 
 -- A chain in 64 places has at most 64 links.

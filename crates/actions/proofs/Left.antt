@@ -12,7 +12,7 @@ use Rattle.numbers.specs.declared.time.Duration.{Duration}
 use Rattle.actions.specs.Action.{actionWords, actionRows}
 use Rattle.actions.specs.Built as P
 use Rattle.actions.specs.Built.{Built}
-use Rattle.actions.specs.Laid.{Put, holdOf}
+use Rattle.actions.specs.Laid.{PutActions, holdOf}
 use Rattle.actions.specs.declared.action.SafeAction.{SafeAction}
 use Rattle.actions.specs.declared.building.Hold.{Hold}
 use Rattle.actions.specs.declared.building.Hold.the-variants as H
@@ -31,7 +31,7 @@ unfolding withRows
 two-rows lent row a b e f = f ∙ ap (λ (room : List ℕ). withRow room (row + 1) (actionWords b)) e
 
 -- A refusal keeps nothing of the room, whichever row it was to begin at.
-pub put-wiped : {lent left : List ℕ} {row : ℕ} (n : ℕ) → left ≡ wiped lent 0 → Put (P.Refused n) lent left row (H.Refused n)
+pub put-wiped : {lent left : List ℕ} {row : ℕ} (n : ℕ) → left ≡ wiped lent 0 → PutActions (P.Refused n) lent left row (H.Refused n)
 unfolding holdOf
 put-wiped {lent} {left} n wipes =
     let zeros : left ≡ replicate (length lent) 0 = wipes ∙ wiped-whole lent in
@@ -43,11 +43,11 @@ put-wiped {lent} {left} n wipes =
     }
 
 pub put-nothing : {lent left : List ℕ} {row other : ℕ} {r : Hold} (n : ℕ) →
-    Put (P.Refused n) lent left other r → Put (P.Refused n) lent left row r
+    PutActions (P.Refused n) lent left other r → PutActions (P.Refused n) lent left row r
 put-nothing n p = record { hold = p .hold; long = p .long; rows = λ actions d e. cc; refused = p .refused }
 
 pub put-rows : {lent left : List ℕ} {row : ℕ} (actions : List SafeAction) (hold : Duration) →
-    left ≡ withRows lent row (actionRows actions) → Put (P.Of actions hold) lent left row (H.Of hold)
+    left ≡ withRows lent row (actionRows actions) → PutActions (P.Of actions hold) lent left row (H.Of hold)
 unfolding holdOf
 put-rows {lent} {left} {row} actions hold put =
     record {
@@ -59,7 +59,7 @@ put-rows {lent} {left} {row} actions hold put =
 
 -- A row past the room stands for its end.
 pub put-placed : {b : Built} {lent left : List ℕ} {r : Hold} (row : ℕ) →
-    Put b lent left (min row (length lent / 4)) r → Put b lent left row r
+    PutActions b lent left (min row (length lent / 4)) r → PutActions b lent left row r
 put-placed {lent = lent} row p =
     record {
       hold = p .hold;

@@ -4,10 +4,10 @@ use Prim.Native.Nat.{ℕ}
 use mathlib.Core.Path.{_≡_, refl, sym, _∙_}
 use mathlib.Core.List.{List}
 use Rattle.actions.specs.Built.{Built, Of, Refused}
-use Rattle.actions.specs.Laid.{Put}
+use Rattle.actions.specs.Laid.{PutActions}
 use Rattle.actions.specs.declared.building.Hold.{Hold}
 
 pub only-put : (answer : Built) {lent left left' : List ℕ} {row : ℕ} {r r' : Hold} →
-    Put answer lent left row r → Put answer lent left' row r' → (r ≡ r') × (left ≡ left')
+    PutActions answer lent left row r → PutActions answer lent left' row r' → (r ≡ r') × (left ≡ left')
 only-put (Of actions hold) p q = (p .hold ∙ sym (q .hold), p .rows actions hold refl ∙ sym (q .rows actions hold refl))
 only-put (Refused n) p q = (p .hold ∙ sym (q .hold), p .refused n refl ∙ sym (q .refused n refl))

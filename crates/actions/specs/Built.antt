@@ -4,7 +4,8 @@ use Prim.Native.Nat.{ℕ}
 use mathlib.Core.List.{List, [], _∷_, _++_, map}
 use lib.IntN.{pos}
 use lib.ListN.{getD}
-use Rattle.numbers.specs.Time.{spanBetween, spanSum}
+use Rattle.refusals.specs.Names.{STRAYED}
+use Rattle.numbers.specs.Time.{spanBetween, spanSum, withSpan}
 use Rattle.numbers.specs.declared.time.Duration.{Duration}
 use Rattle.numbers.specs.declared.time.Span.{Span}
 use Rattle.numbers.specs.declared.time.Span.the-variants as S
@@ -12,11 +13,9 @@ use Rattle.numbers.specs.declared.time.TimePoint.{TimePoint}
 use Rattle.shapes.specs.Leg.{placeOf}
 use Rattle.shapes.specs.declared.waypoint.Waypoint.{Waypoint}
 use Rattle.waits.specs.declared.hint.WaitHint.{WaitHint}
-use Rattle.ranking.specs.Hints.{blank}
+use Rattle.ranking.specs.Hints.{blankRanked}
 use Rattle.ranking.specs.declared.order.RankedHint.{RankedHint}
-use Rattle.ways.specs.Travel.{waypointOf, reachedFrom}
-use Rattle.ways.specs.declared.travel.Reached.{Reached}
-use Rattle.ways.specs.declared.travel.Reached.the-variants as W
+use Rattle.ways.specs.Travel.{hintWaypoint, reachedFrom, withReached}
 use Rattle.ways.specs.declared.trip.Trip.{Trip}
 use Rattle.actions.specs.declared.action.SafeAction.{SafeAction}
 use Rattle.actions.specs.declared.action.SafeAction.the-variants.{Move, Wait}
@@ -25,14 +24,6 @@ use Rattle.actions.specs.declared.action.SafeAction.the-variants.{Move, 
 pub data Built : Type 0 where
   Of : List SafeAction → Duration → Built
   Refused : ℕ → Built
-
-abbrev pub reaching : Reached → (Waypoint → Built) → Built
-reaching (W.At w) go = go w
-reaching (W.Refused n) go = Refused n
-
-abbrev pub spanning : Span → (Duration → Built) → Built
-spanning (S.Of d) go = go d
-spanning S.Strayed go = Refused 7
 
 -- A wait is its end less the arrival; it and the running sum are spans (RULES 13.25, 13.26).
 unfoldable pub holdAfter : Duration → TimePoint → TimePoint → Span
@@ -45,31 +36,31 @@ holdAfter hold arrival until = by (spanBetween arrival until)
 -- A hint of the chain: a Move to its place, a Wait there for its obstacle (RULES 13.23).
 unfoldable pub stopped : Trip → Waypoint → WaitHint → Duration → Built
 stopped trip from h hold =
-    reaching (reachedFrom (trip .speed) from (h .place)) (λ w.
-    spanning (holdAfter hold (w .time) (h .until)) (λ sum.
+    withReached Refused (reachedFrom (trip .speed) from (h .place)) (λ w.
+    withSpan (Refused STRAYED) (holdAfter hold (w .time) (h .until)) (λ sum.
     Of (Move w ∷ (Wait (h .obstacle) (h .until) ∷ [])) sum))
 
 -- At the end a Move to the goal's place (RULES 13.23).
 unfoldable pub ended : Trip → Waypoint → Duration → Built
 ended trip from hold =
-    reaching (reachedFrom (trip .speed) from (placeOf (trip .leg .end))) (λ w. Of (Move w ∷ []) hold)
+    withReached Refused (reachedFrom (trip .speed) from (placeOf (trip .leg .end))) (λ w. Of (Move w ∷ []) hold)
 
-abbrev pub before : List SafeAction → Built → Built
-before done (Of actions hold) = Of (done ++ actions) hold
-before done (Refused n) = Refused n
+abbrev pub inFront : List SafeAction → Built → Built
+inFront done (Of actions hold) = Of (done ++ actions) hold
+inFront done (Refused n) = Refused n
 
 abbrev pub andOn : Built → (Duration → Built) → Built
-andOn (Of actions hold) go = before actions (go hold)
+andOn (Of actions hold) go = inFront actions (go hold)
 andOn (Refused n) go = Refused n
 
 -- From a waypoint by way of hints to the goal, with the hold so far (RULES 13.23 to 13.26).
 unfoldable pub built : Trip → Waypoint → Duration → List WaitHint → Built
 built trip from hold [] = ended trip from hold
-built trip from hold (h ∷ hs) = andOn (stopped trip from h hold) (λ sum. built trip (waypointOf h) sum hs)
+built trip from hold (h ∷ hs) = andOn (stopped trip from h hold) (λ sum. built trip (hintWaypoint h) sum hs)
 
 -- The hints of a chain.
 unfoldable pub hintsAt : List RankedHint → List ℕ → List WaitHint
-hintsAt hints links = map (λ i. getD hints i blank .hint) links
+hintsAt hints links = map (λ i. getD hints i blankRanked .hint) links
 
 -- No wait yet.
 abbrev pub unheld : Duration

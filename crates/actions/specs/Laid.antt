@@ -17,7 +17,7 @@ holdOf (Of actions hold) = H.Of hold
 holdOf (Refused n) = H.Refused n
 
 -- The rows of an answer from a place on, as far as there is room; zero throughout on a refusal (RULES 4.14).
-pub record Put (answer : Built) (lent left : List ℕ) (row : ℕ) (r : Hold) : Type 0 where
+pub record PutActions (answer : Built) (lent left : List ℕ) (row : ℕ) (r : Hold) : Type 0 where
   pub hold : r ≡ holdOf answer
   pub long : length left ≡ length lent
   pub rows : (actions : List SafeAction) (d : Duration) → answer ≡ Of actions d → left ≡ withRows lent row (actionRows actions)

@@ -16,10 +16,10 @@ ghost use mathlib.Core.Path.{_≡_};
 ghost use Prim.Native.Nat.{_≤_, _/_, min};
 ghost use lib.ListN.{length};
 ghost use lib.IntN.{pos};
-ghost use Rattle.ranking.specs.Hints.{held};
+ghost use Rattle.ranking.specs.Hints.{rankedHeld};
 ghost use Rattle.chains.specs.Handed.{linksIn};
 ghost use Rattle.actions.specs.Built.{Refused, holdAfter, stopped, ended, built, hintsAt};
-ghost use Rattle.actions.specs.Laid.{Put};
+ghost use Rattle.actions.specs.Laid.{PutActions};
 
 // The hold of a path, or a refusal and its number.
 pub enum Hold {
@@ -40,7 +40,7 @@ fn hold_after(hold: Duration, arrival: TimePoint, until: TimePoint) -> Span
 
 // A refusal's number alone: no word of the room is kept.
 fn refuse(out: &mut [u64], number: u64) -> Hold
-    ensures { λ r. ⌜ Put (Refused number) (now (out .entry)) (now (out .exit)) 0 r ⌝ }
+    ensures { λ r. ⌜ PutActions (Refused number) (now (out .entry)) (now (out .exit)) 0 r ⌝ }
 {
     words::wipe_from(out, 0);
     Hold::Refused(number)
@@ -56,7 +56,7 @@ fn put_stop(
     row: usize,
 ) -> Hold
     requires { ⌜ row ≤ 4_611_686_018_427_387_904 ⌝ }
-    ensures { λ r. ⌜ Put (stopped trip from hint hold) (now (out .entry)) (now (out .exit)) row r ⌝ }
+    ensures { λ r. ⌜ PutActions (stopped trip from hint hold) (now (out .entry)) (now (out .exit)) row r ⌝ }
 {
     let place = hint.place;
     let until = hint.until;
@@ -66,7 +66,7 @@ fn put_stop(
         Reached::At(w) => {
             let held = hold_after(hold, w.time, until);
             let Span::Of(sum) = held else {
-                return refuse(out, 7);
+                return refuse(out, refusals::STRAYED);
             };
             action::put_action(out, row, SafeAction::Move(w));
             action::put_action(out, row + 1, SafeAction::Wait(hint.obstacle, until));
@@ -77,7 +77,7 @@ fn put_stop(
 
 // Moving from the last waypoint to the goal: one row.
 fn put_end(trip: Trip, from: Waypoint, hold: Duration, out: &mut [u64], row: usize) -> Hold
-    ensures { λ r. ⌜ Put (ended trip from hold) (now (out .entry)) (now (out .exit)) row r ⌝ }
+    ensures { λ r. ⌜ PutActions (ended trip from hold) (now (out .entry)) (now (out .exit)) row r ⌝ }
 {
     let leg = trip.leg;
     let goal = leg.end;
@@ -104,7 +104,7 @@ fn place(out: &[u64], row: usize) -> usize
 
 // The actions of a whole path from `row` on: two for each hint of the chain, and the last move. A refusal keeps no word.
 pub fn build(trip: Trip, hints: RankedHints, chain: Chain, out: &mut [u64], row: usize) -> Hold
-    ensures { λ r. ⌜ Put (built trip (trip .leg .start) (record { 0 = pos 0 }) (hintsAt (held hints) (linksIn chain))) (now (out .entry)) (now (out .exit)) row r ⌝ }
+    ensures { λ r. ⌜ PutActions (built trip (trip .leg .start) (record { 0 = pos 0 }) (hintsAt (rankedHeld hints) (linksIn chain))) (now (out .entry)) (now (out .exit)) row r ⌝ }
 {
     let leg = trip.leg;
     let n = chain.len();

@@ -1,4 +1,4 @@
--- What is known of every stream's plan: a refusal has a number, and a plan at most 289 paths.
+-- What is known of every stream's plan: a refusal has a number of a plan's list, and a plan at most 289 paths.
 -- Assumes nothing.
 use Prim.Native.Nat.{ℕ, _≤_}
 use mathlib.Core.Path.{_≡_, refl, ap}
@@ -16,10 +16,12 @@ use Rattle.plans.specs.Asked.{askedPlan}
 use Rattle.plans.specs.Plan.{Path, Plan, Planned, Refused, shortPlan}
 use Rattle.path_claims.specs.Whole.{Long}
 use Rattle.path_claims.proofs.Whole.{whole}
+use Rattle.refusal_claims.specs.Numbers.{PlanRefusal}
+use Rattle.refusal_claims.specs.Numbers.PlanRefusal.{Shape}
 use Rattle.refusal_claims.proofs.Refusals.{agent-refused}
 use Rattle.streams.specs.Request.{Reading, Of, Malformed}
 use Rattle.streams.specs.Format.{readOf}
-use Rattle.requests.specs.Table.{profileOf, legOf, tableOf}
+use Rattle.requests.specs.Table.{requestProfile, requestLeg, tableOf}
 use Rattle.requests.specs.Asked.{requestPlan, streamPlan}
 
 -- ---- Of an asked plan.
@@ -45,20 +47,27 @@ few-paths p agent budget lent hints times sweeps ps e = by (isBrief agent) refl
 
 -- ---- Of a stream's plan.
 
-pub numbered : (s : List ℕ) (n : ℕ) → streamPlan s ≡ Refused n → n ≢ 0
+-- A stream that is no request is refused 2, which a plan can be too (RULES 14.17).
+pub stream-refused : (s : List ℕ) (n : ℕ) → streamPlan s ≡ Refused n → PlanRefusal n
 unfolding streamPlan requestPlan
-numbered s n e = by (readOf s) refl
+stream-refused s n e = by (readOf s) refl
   where
     numberIn : Plan → ℕ
     numberIn (Planned hints times sweeps ps) = 0
     numberIn (Refused m) = m
 
-    by : (r : Reading) → readOf s ≡ r → n ≢ 0
+    by : (r : Reading) → readOf s ≡ r → PlanRefusal n
     by (Of r) read =
-        agent-refused (profileOf (r .footprint) (r .follow)) (legOf r) (tableOf (r .obstacles)) .not-nought (r .budget) (rw read at e)
+        agent-refused (requestProfile (r .footprint) (r .follow)) (requestLeg r) (tableOf (r .obstacles)) .plan (r .budget) (rw read at e)
     by Malformed read =
         let two : 2 ≡ n = ap numberIn (rw read at e) in
-        λ nought. omega arith
+        rw (← two) Shape
+
+pub numbered : (s : List ℕ) (n : ℕ) → streamPlan s ≡ Refused n → n ≢ 0
+numbered s n e nought = none (rw nought at (stream-refused s n e))
+  where
+    none : PlanRefusal 0 → ⊥
+    none r = elim r [ ]
 
 pub few : (s : List ℕ) (hints times sweeps : ℕ) (ps : List Path) → streamPlan s ≡ Planned hints times sweeps ps → length ps ≤ 289
 unfolding streamPlan requestPlan
@@ -70,7 +79,7 @@ few s hints times sweeps ps e = by (readOf s) refl
 
     by : (r : Reading) → readOf s ≡ r → length ps ≤ 289
     by (Of r) read =
-        few-paths (profileOf (r .footprint) (r .follow)) (legOf r) (r .budget) (tableOf (r .obstacles)) hints times sweeps ps
+        few-paths (requestProfile (r .footprint) (r .follow)) (requestLeg r) (r .budget) (tableOf (r .obstacles)) hints times sweeps ps
         (rw read at e)
     by Malformed read =
         let one : _≡_ {A = ℕ} 1 0 = ap isPlan (rw read at e) in

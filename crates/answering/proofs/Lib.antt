@@ -1,5 +1,5 @@
 pub mod Rows
-pub mod Roomed
 pub mod Asked
-pub mod Lengths
+pub mod Roomed
+pub mod Printed
 pub mod Shown

@@ -1,4 +1,5 @@
--- What is printed for a stream is plain text, so its end in a room is the first zero or the room's own (RULES 15.8).
+-- The reply to a stream and what is printed for it are plain text, so its end in a room is the first zero or the room's own (RULES
+-- 15.8).
 -- Assumes nothing.
 use Prim.Native.Nat.{ℕ}
 use mathlib.Core.Path.{_≡_, refl}
@@ -8,6 +9,7 @@ use lib.Ieee.{binary64, toBits}
 use lib.ListN.{length}
 use Rattle.patterns.specs.Word.{wordOf}
 use Rattle.lists.specs.Listed.{every}
+use Rattle.lists.specs.Outcome.{Gives}
 use Rattle.plans.specs.Plan.{Path, Plan, Planned, Refused}
 use Rattle.actions.specs.declared.action.SafeAction.{SafeAction}
 use Rattle.actions.specs.declared.action.SafeAction.the-variants.{Move, Wait}
@@ -15,7 +17,8 @@ use Rattle.requests.specs.Asked.{streamPlan}
 use Rattle.wording.specs.Lines.{okLine, pathLine}
 use Rattle.wording.specs.Shown.{isShown}
 use Rattle.wording.proofs.Shown.{Shown, both, ok-shown, path-shown, move-shown, wait-shown, refused-shown}
-use Rattle.answering.specs.Text.{actionText, actionsText, pathText, pathsText, planText, roomed, streamText}
+use Rattle.answering.specs.Text.{actionText, actionsText, pathText, pathsText, planReply, roomed, streamReply}
+use Rattle.answering.specs.Text.{printed, streamText}
 
 action-shown : (a : SafeAction) → Shown (actionText a)
 unfolding actionText
@@ -39,15 +42,19 @@ unfolding pathsText every
 paths-shown [] = refl
 paths-shown (p ∷ ps) = both (pathText p) (pathsText ps) (path-text-shown p) (paths-shown ps)
 
-plan-shown : (p : Plan) → Shown (planText p)
-unfolding planText
+plan-shown : (p : Plan) → Shown (printed (planReply p))
+unfolding planReply printed
 plan-shown (Planned hints times sweeps ps) =
     both (okLine hints times sweeps (length ps)) (pathsText ps) (ok-shown hints times sweeps (length ps)) (paths-shown ps)
 plan-shown (Refused n) = refused-shown n
 
-pub reply-shown : (s : List ℕ) → every isShown (streamText s) ≡ true
-unfolding streamText
-reply-shown s = plan-shown (roomed (streamPlan s))
+pub printed-shown : (s : List ℕ) → every isShown (streamText s) ≡ true
+unfolding streamText streamReply
+printed-shown s = plan-shown (roomed (streamPlan s))
+
+pub reply-shown : (s text : List ℕ) → streamReply s ≡ Gives text → every isShown text ≡ true
+unfolding streamText printed
+reply-shown s text e = rw e at (printed-shown s)
 
 pub zero-is-not-shown : isShown 0 ≡ false
 unfolding isShown

@@ -1,4 +1,4 @@
--- What `plan` prints for a stream (RULES 14.18, 15.1 to 15.11).
+-- The reply to a stream, and what `plan` prints for it (RULES 14.18, 15.1 to 15.11).
 -- Assumes nothing.
 use Prim.Native.Nat.{ℕ}
 use mathlib.Core.Bool.{cond}
@@ -6,13 +6,13 @@ use mathlib.Core.List.{List, [], _∷_, _++_}
 use lib.Dec.{leb}
 use lib.Ieee.{binary64, toBits}
 use lib.ListN.{length}
+use Rattle.refusals.specs.Names.{NO_ROOM}
+use Rattle.lists.specs.Outcome.{Outcome, Gives, Refuses}
 use Rattle.patterns.specs.Word.{wordOf}
 use Rattle.plans.specs.Plan.{Path, Plan, Planned, Refused, allActions}
 use Rattle.actions.specs.declared.action.SafeAction.{SafeAction}
 use Rattle.actions.specs.declared.action.SafeAction.the-variants.{Move, Wait}
 use Rattle.requests.specs.Asked.{streamPlan}
-use Rattle.texts.specs.declared.room.Told.{Told}
-use Rattle.texts.specs.declared.room.Told.the-variants as T
 use Rattle.wording.specs.Lines.{okLine, pathLine, moveLine, waitLine, refusedLine}
 
 -- The line of an action (RULES 15.3, 15.4).
@@ -32,21 +32,26 @@ unfoldable pub pathsText : List Path → List ℕ
 pathsText [] = []
 pathsText (p ∷ ps) = pathText p ++ pathsText ps
 
--- First the counts, then the paths in order of arrival; a refusal is its one line (RULES 15.1, 15.5, 15.6).
-unfoldable pub planText : Plan → List ℕ
-planText (Planned hints times sweeps ps) = okLine hints times sweeps (length ps) ++ pathsText ps
-planText (Refused n) = refusedLine n
+-- First the counts, then the paths in order of arrival (RULES 15.1, 15.6); of a refusal its number alone (RULES 4.14).
+unfoldable pub planReply : Plan → Outcome
+planReply (Planned hints times sweeps ps) = Gives (okLine hints times sweeps (length ps) ++ pathsText ps)
+planReply (Refused n) = Refuses n
 
 -- There is room for 1,600 actions over all paths, and for everything else; past it the answer is 12 (RULES 14.18).
 unfoldable pub roomed : Plan → Plan
 roomed (Planned hints times sweeps ps) =
-    cond (leb (length (allActions ps)) 1600) (Planned hints times sweeps ps) (Refused 12)
+    cond (leb (length (allActions ps)) 1600) (Planned hints times sweeps ps) (Refused NO_ROOM)
 roomed (Refused n) = Refused n
 
-unfoldable pub streamText : List ℕ → List ℕ
-streamText s = planText (roomed (streamPlan s))
+-- The reply to a stream: a text, or the number of a refusal.
+unfoldable pub streamReply : List ℕ → Outcome
+streamReply s = planReply (roomed (streamPlan s))
 
--- How long a text is; a refusal has none.
-unfoldable pub lengthOf : Told → ℕ
-lengthOf (T.Text n) = n
-lengthOf (T.Refused n) = 0
+-- A text is printed as it is, a refusal as its one line (RULES 15.5, 15.6).
+unfoldable pub printed : Outcome → List ℕ
+printed (Gives text) = text
+printed (Refuses n) = refusedLine n
+
+-- What `plan` prints.
+unfoldable pub streamText : List ℕ → List ℕ
+streamText s = printed (streamReply s)

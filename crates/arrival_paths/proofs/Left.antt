@@ -12,7 +12,7 @@ use Rattle.numbers.specs.declared.time.Duration.{Duration}
 use Rattle.actions.specs.Action.{actionRows}
 use Rattle.actions.specs.Built as B
 use Rattle.actions.specs.Built.{Built}
-use Rattle.actions.specs.Laid.{Put}
+use Rattle.actions.specs.Laid.{PutActions}
 use Rattle.actions.specs.declared.action.SafeAction.{SafeAction}
 use Rattle.actions.specs.declared.building.Hold.{Hold}
 use Rattle.actions.specs.declared.building.Hold.the-variants as H
@@ -76,7 +76,7 @@ never-missing (B.Of more hold) pops p e = cc
 never-missing (B.Refused n) pops p e = cc
 
 put-along : {lent left : List ℕ} {row : ℕ} {r : Hold} {found : Found} (b : Built) (pops : ℕ) →
-    Put b lent left row r → found ≡ foundOf (withPops pops b) → PutPath (withPops pops b) lent left row found
+    PutActions b lent left row r → found ≡ foundOf (withPops pops b) → PutPath (withPops pops b) lent left row found
 put-along b pops p e =
     record {
       found = e;
@@ -86,7 +86,7 @@ put-along b pops p e =
       refused = λ n f. p .refused n (refused-back b pops n f);
     }
 
-module _ {lent left : List ℕ} {row : ℕ} {r : Hold} (b : Built) (pops : ℕ) (p : Put b lent left row r) where
+module _ {lent left : List ℕ} {row : ℕ} {r : Hold} (b : Built) (pops : ℕ) (p : PutActions b lent left row r) where
   abbrev foundWith : Built → Found
   foundWith x = foundOf (withPops pops x)
 

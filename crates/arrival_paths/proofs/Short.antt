@@ -11,8 +11,8 @@ use Rattle.numbers.specs.declared.time.Duration.{Duration}
 use Rattle.numbers.specs.declared.time.TimePoint.{TimePoint}
 use Rattle.ranking.specs.declared.order.RankedHint.{RankedHint}
 use Rattle.obstacles.specs.Obstacle.{Obstacle}
-use Rattle.chains.specs.Answer.{Answer, Way, NoWay, Refused}
-use Rattle.chains.specs.Handed.{chainOf, linksIn, firstOf, answered}
+use Rattle.chains.specs.Answer.{Chained, Way, NoWay, Refused}
+use Rattle.chains.specs.Handed.{chainOf, linksIn, firstIndex, answered}
 use Rattle.chains.specs.declared.trial.Trial.{Trial}
 use Rattle.chains.specs.declared.trial.Trial.the-variants as T
 use Rattle.choosing.specs.Roots.{goalContour, firstRoot}
@@ -52,7 +52,7 @@ along-short trip hints links pops few =
     pops-short (2 * length links + 1) pops (built trip (trip .leg .start) unheld (hintsAt hints links))
     (chain-counts trip hints links) (omega arith)
 
-taken-short : (trip : Trip) (hints : List RankedHint) (answer : Answer) → Short (taken trip hints (answered answer))
+taken-short : (trip : Trip) (hints : List RankedHint) (answer : Chained) → Short (taken trip hints (answered answer))
 unfolding taken
 taken-short trip hints (Way links pops) = along-short trip hints (linksIn (chainOf links)) pops (in-places links)
 taken-short trip hints (NoWay pops) = tt
@@ -67,8 +67,8 @@ module _ (trip : Trip) (os : List Obstacle) (hints : List RankedHint) (budget : 
   unfolding byHints
   hints-short = by (eqb (length hints) 0)
     where
-      answer : Duration → Answer
-      answer goal = chainFrom trip os hints budget (firstOf (firstRoot goal hints))
+      answer : Duration → Chained
+      answer goal = chainFrom trip os hints budget (firstIndex (firstRoot goal hints))
 
       go : Duration → Sought
       go goal = taken trip hints (answered (answer goal))

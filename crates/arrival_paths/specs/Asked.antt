@@ -4,6 +4,7 @@ use Prim.Native.Nat.{ℕ}
 use mathlib.Core.Bool.{cond, _&&_}
 use mathlib.Core.List.{List, [], _∷_, _++_}
 use lib.ListN.{length}
+use Rattle.refusals.specs.Names.{NO_LINE}
 use Rattle.lists.specs.Outcome.{Outcome, Gives, Refuses}
 use Rattle.lists.specs.Rows.{wordsIn}
 use Rattle.patterns.specs.Word.{wordOf}
@@ -17,7 +18,7 @@ use Rattle.shapes.specs.declared.waypoint.Leg.{Leg}
 use Rattle.obstacles.specs.Lent.{Lent, obstaclesOf}
 use Rattle.obstacles.specs.Obstacle.{Obstacle}
 use Rattle.obstacles.specs.Examined.{agentExamined}
-use Rattle.ranking.specs.Hints.{held}
+use Rattle.ranking.specs.Hints.{rankedHeld}
 use Rattle.lending.specs.Lent.{lentHints}
 use Rattle.ranking.specs.declared.order.RankedHint.{RankedHint}
 use Rattle.ranking.specs.declared.ranked_hints.RankedHints.{RankedHints}
@@ -47,12 +48,12 @@ unfoldable pub askedPath : CircularProfile → Leg → TimePoint → ℕ → Lis
 askedPath p agent arrival budget words lent = by (lentHints (length (lent .starts)) words)
   where
     examined : Examined → List RankedHint → Sought
-    examined X.Fine hints = cond (isBrief agent) (Refused 4) (lonePath p agent arrival budget hints (obstaclesOf lent))
+    examined X.Fine hints = cond (isBrief agent) (Refused NO_LINE) (lonePath p agent arrival budget hints (obstaclesOf lent))
     examined (X.Refused n) hints = Refused n
 
     by : RankedHints → Sought
     by list =
-        examined (withLent (list .refused) (withNumbers (isBudget budget && isTime arrival) (agentExamined p agent lent))) (held list)
+        examined (withLent (list .refused) (withNumbers (isBudget budget && isTime arrival) (agentExamined p agent lent))) (rankedHeld list)
 
 -- Its words, in rows of four: whether there is a path, its pops, its hold and its count of actions; then they.
 unfoldable pub pathOutcome : Sought → Outcome

@@ -9,7 +9,7 @@ use Rattle.numbers.specs.declared.time.Duration.{Duration}
 use Rattle.numbers.specs.declared.time.TimePoint.{TimePoint}
 use Rattle.obstacles.specs.Obstacle.{Obstacle}
 use Rattle.ranking.specs.declared.order.RankedHint.{RankedHint}
-use Rattle.chains.specs.Handed.{linksIn, firstOf, answered}
+use Rattle.chains.specs.Handed.{linksIn, firstIndex, answered}
 use Rattle.chains.specs.declared.trial.Trial.{Trial}
 use Rattle.chains.specs.declared.trial.Trial.the-variants as T
 use Rattle.chains.specs.declared.tried.Ending.{Ending}
@@ -60,7 +60,7 @@ byHints trip os hints budget arrival =
     cond (eqb (length hints) 0)
     (Missing 0)
     (contoured (goalContour trip arrival) (λ goal.
-    taken trip hints (answered (chainFrom trip os hints budget (firstOf (firstRoot goal hints))))))
+    taken trip hints (answered (chainFrom trip os hints budget (firstIndex (firstRoot goal hints))))))
 
 -- One Move to the asked waypoint where the direct path is safe, else by way of hints (RULES 13.5 to 13.7).
 unfoldable pub pathFor : Trip → List Obstacle → List RankedHint → ℕ → TimePoint → Sought

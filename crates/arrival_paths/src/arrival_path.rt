@@ -18,7 +18,7 @@ use ways::tests;
 use ways::trip::Trip;
 ghost use Rattle.obstacles.specs.Lent.{lentOf, obstaclesWith};
 ghost use Rattle.obstacles.specs.Boxes.{boxIn};
-ghost use Rattle.ranking.specs.Hints.{held};
+ghost use Rattle.ranking.specs.Hints.{rankedHeld};
 ghost use Rattle.chains.specs.Handed.{linksIn};
 ghost use Rattle.arrival_paths.specs.Path.{Refused, alongHints, taken, byHints, pathFor};
 ghost use Rattle.arrival_paths.specs.Laid.{PutPath};
@@ -47,7 +47,7 @@ fn along(
     out: &mut [u64],
     row: usize,
 ) -> Found
-    ensures { λ r. ⌜ PutPath (alongHints trip (held hints) (linksIn chain) pops) (now (out .entry)) (now (out .exit)) row r ⌝ }
+    ensures { λ r. ⌜ PutPath (alongHints trip (rankedHeld hints) (linksIn chain) pops) (now (out .entry)) (now (out .exit)) row r ⌝ }
 {
     let n = chain.len();
     let hold = building::build(trip, hints, chain, out, row);
@@ -59,7 +59,7 @@ fn along(
 
 // The path that a search came to.
 fn take(trip: Trip, hints: RankedHints, tried: Tried, out: &mut [u64], row: usize) -> Found
-    ensures { λ r. ⌜ PutPath (taken trip (held hints) tried) (now (out .entry)) (now (out .exit)) row r ⌝ }
+    ensures { λ r. ⌜ PutPath (taken trip (rankedHeld hints) tried) (now (out .entry)) (now (out .exit)) row r ⌝ }
 {
     let ending = tried.ending;
     let chain = tried.chain;
@@ -86,7 +86,7 @@ fn by_hints(
     out: &mut [u64],
     row: usize,
 ) -> Found
-    ensures { λ r. ⌜ PutPath (byHints trip (obstaclesWith (lentOf (now (starts .entry)) (now (numbers .entry)) (now (times .entry)) (now (xs .entry)) (now (ys .entry))) (boxIn (now (boxes .entry)))) (held hints) budget arrival) (now (out .entry)) (now (out .exit)) row r ⌝ }
+    ensures { λ r. ⌜ PutPath (byHints trip (obstaclesWith (lentOf (now (starts .entry)) (now (numbers .entry)) (now (times .entry)) (now (xs .entry)) (now (ys .entry))) (boxIn (now (boxes .entry)))) (rankedHeld hints) budget arrival) (now (out .entry)) (now (out .exit)) row r ⌝ }
 {
     if hints.len() == 0 {
         return Found::Missing(0);
@@ -128,7 +128,7 @@ pub fn compute_safe_arrival_path(
     out: &mut [u64],
     row: usize,
 ) -> Found
-    ensures { λ r. ⌜ PutPath (pathFor trip (obstaclesWith (lentOf (now (starts .entry)) (now (numbers .entry)) (now (times .entry)) (now (xs .entry)) (now (ys .entry))) (boxIn (now (boxes .entry)))) (held hints) budget arrival) (now (out .entry)) (now (out .exit)) row r ⌝ }
+    ensures { λ r. ⌜ PutPath (pathFor trip (obstaclesWith (lentOf (now (starts .entry)) (now (numbers .entry)) (now (times .entry)) (now (xs .entry)) (now (ys .entry))) (boxIn (now (boxes .entry)))) (rankedHeld hints) budget arrival) (now (out .entry)) (now (out .exit)) row r ⌝ }
 {
     let direct = tests::can_arrive_safely(trip, arrival, starts, numbers, times, xs, ys, boxes);
     match direct {

@@ -8,20 +8,20 @@ use native.Mathlib.Nat.{sub-zero}
 use native.Mathlib.Omega.{arith}
 use lib.ListN.{length, length-append}
 use Rattle.numbers.specs.declared.time.TimePoint.{TimePoint}
-use Rattle.arrivals.specs.Search.{View, Answered, Refused, gone, turn, search, arrivals, legsIn, moving}
+use Rattle.arrivals.specs.Search.{View, Answered, Refused, gone, turn, search, arrivals, legsIn, obstaclesIn}
 use Rattle.arrivals.specs.declared.turn.Turn.the-variants as T
 use Rattle.arrivals.proofs.Theorems.{finished}
 
 module _ {Leg : Type 0} (v : View Leg) (os : List (List Leg)) (asked : TimePoint) where
   -- After n sweeps, which listed l, the search from c on gives the answer; a sweep lists one time at most (RULES 12.14).
   pub record Going (c : TimePoint) (l : List TimePoint) (n : ℕ) : Type 0 where
-    pub rest : search v os (legsIn os + moving os + 1 - n) c l n ≡ arrivals v os asked
+    pub rest : search v os (legsIn os + obstaclesIn os + 1 - n) c l n ≡ arrivals v os asked
     pub fewer : length l ≤ n
 
   -- It begins at the time asked for (RULES 12.3).
   pub going-start : Going asked [] 0
   unfolding arrivals
-  going-start = record { rest = rw (sub-zero (legsIn os + moving os + 1)); fewer = omega arith }
+  going-start = record { rest = rw (sub-zero (legsIn os + obstaclesIn os + 1)); fewer = omega arith }
 
 module _ {Leg : Type 0} {v : View Leg} {os : List (List Leg)} {asked c : TimePoint} {l : List TimePoint} {n : ℕ}
     (g : Going v os asked c l n) where
@@ -31,14 +31,14 @@ module _ {Leg : Type 0} {v : View Leg} {os : List (List Leg)} {asked c : TimePoi
   some-left (suc k) e = omega arith
 
   -- A sweep is left, since the search is finished within L + O + 1 (RULES D3a).
-  pub going-room : n < legsIn os + moving os + 1
-  going-room = let h = some-left (legsIn os + moving os + 1 - n) (g .rest) in omega arith
+  pub going-room : n < legsIn os + obstaclesIn os + 1
+  going-room = let h = some-left (legsIn os + obstaclesIn os + 1 - n) (g .rest) in omega arith
 
-  turned-by : gone (turn v os c) c l n (search v os (legsIn os + moving os + 1 - (n + 1))) ≡ arrivals v os asked
+  turned-by : gone (turn v os c) c l n (search v os (legsIn os + obstaclesIn os + 1 - (n + 1))) ≡ arrivals v os asked
   unfolding search
   turned-by =
       let h = going-room in
-      let z : legsIn os + moving os + 1 - n ≡ suc (legsIn os + moving os + 1 - (n + 1)) = omega arith in
+      let z : legsIn os + obstaclesIn os + 1 - n ≡ suc (legsIn os + obstaclesIn os + 1 - (n + 1)) = omega arith in
       rw z at (g .rest)
 
   -- The next sweep begins at t (RULES 12.12).

@@ -13,7 +13,7 @@ use Rattle.numbers.specs.declared.time.TimePoint.{TimePoint}
 use Rattle.numbers.proofs.Integers.{at-most→not-below}
 use Rattle.proximity.specs.declared.detect.Proximity.{Proximity}
 use Rattle.proximity.specs.declared.detect.Proximity.the-variants as P
-use Rattle.arrivals.specs.Search.{View, legsIn, moving}
+use Rattle.arrivals.specs.Search.{View, legsIn, obstaclesIn}
 use Rattle.arrivals.specs.Sweeps.{exitOf, exitsOf, allExits, allFinishes}
 use Rattle.arrivals.proofs.Instants.{by-cond, below-trans}
 
@@ -95,14 +95,14 @@ module _ {Leg : Type 0} (v : View Leg) where
   all-exits-length [] = omega arith
   all-exits-length (o ∷ os) = omega (arith, length-append (exitsOf v o) (allExits v os), exits-length o, all-exits-length os)
 
-  all-finishes-length : (os : List (List Leg)) → length (allFinishes v os) ≤ moving os
-  unfolding moving
+  all-finishes-length : (os : List (List Leg)) → length (allFinishes v os) ≤ obstaclesIn os
+  unfolding obstaclesIn
   all-finishes-length [] = omega arith
   all-finishes-length ([] ∷ os) = all-finishes-length os
   all-finishes-length ((l ∷ ls) ∷ os) = omega (arith, all-finishes-length os)
 
   -- At most an exit for each leg and a finish for each obstacle with a trajectory (RULES 12.19).
-  pub remaining-bound : (os : List (List Leg)) (c : TimePoint) → remaining os c ≤ legsIn os + moving os
+  pub remaining-bound : (os : List (List Leg)) (c : TimePoint) → remaining os c ≤ legsIn os + obstaclesIn os
   unfolding remaining
   remaining-bound os c =
       let exits = after-length c (allExits v os) in

@@ -6,7 +6,7 @@ use mathlib.Core.List.{List, [], _∷_, _++_}
 use Prim.Native.Nat.{ℕ, zero, suc, _+_, _≤_, _<_}
 use native.Mathlib.Omega.{arith}
 use Rattle.numbers.specs.declared.time.TimePoint.{TimePoint}
-use Rattle.arrivals.specs.Search.{View, Answer, Answered, Refused, Unfinished, gone, turn, search, arrivals, legsIn, moving}
+use Rattle.arrivals.specs.Search.{View, Searched, Answered, Refused, Unfinished, gone, turn, search, arrivals, legsIn, obstaclesIn}
 use Rattle.arrivals.specs.Sweeps.{All, Sweep, Then, pushed, Reaches, here, there, Stuck}
 use Rattle.arrivals.specs.Sweeps.{Gives, ends, lists, goes, lists-goes}
 use Rattle.arrivals.specs.Sweeps as Sweeps
@@ -62,14 +62,14 @@ module _ {Leg : Type 0} (v : View Leg) (os : List (List Leg)) where
 
   module _ (R : ℕ → Type 0) where
     -- What an answer tells of it. R holds of a refusal that is not of a stuck sweep.
-    abbrev pub Ran : TimePoint → List TimePoint → ℕ → ℕ → Answer → Type 0
+    abbrev pub Ran : TimePoint → List TimePoint → ℕ → ℕ → Searched → Type 0
     Ran a l m k (Answered r n) = Answers a l m k r n
     Ran a l m k (Refused n) = R n ⊎ ((n ≡ 8) × Stuck v os a)
     Ran a l m k Unfinished = k ≤ remaining v os a
 
     ran-on : {a b : TimePoint} (l p : List TimePoint) (m k : ℕ) → Then v os a b →
         ((r : List TimePoint) (n : ℕ) → Gives v os b p r n → Gives v os a l r (suc n)) →
-        (x : Answer) → Ran b p (suc m) k x → Ran a l m (suc k) x
+        (x : Searched) → Ran b p (suc m) k x → Ran a l m (suc k) x
     ran-on l p m k t onto (Answered r n) g =
         let counted = g .counted in
         let at-most = g .at-most in
@@ -86,7 +86,7 @@ module _ {Leg : Type 0} (v : View Leg) (os : List (List Leg)) where
         )) g
     ran-on l p m k t onto Unfinished g = omega (arith, then-fewer v os t)
 
-    gone-ran : (a : TimePoint) (l : List TimePoint) (m k : ℕ) (u : Turn) (go : TimePoint → List TimePoint → ℕ → Answer) →
+    gone-ran : (a : TimePoint) (l : List TimePoint) (m k : ℕ) (u : Turn) (go : TimePoint → List TimePoint → ℕ → Searched) →
         Told v os R a u → ((b : TimePoint) (p : List TimePoint) (n : ℕ) → Ran b p n k (go b p n)) →
         Ran a l m (suc k) (gone u a l m go)
     gone-ran a l m k T.Ends go s h =
@@ -108,6 +108,6 @@ module _ {Leg : Type 0} (v : View Leg) (os : List (List Leg)) where
       search-ran (suc k) a l m = gone-ran a l m k (turn v os a) (search v os k) (turn-told v os R gives a) (search-ran k)
 
       -- The other way round (RULES D3a, D3d, D3e).
-      pub arrivals-ran : (asked : TimePoint) → Ran asked [] 0 (legsIn os + moving os + 1) (arrivals v os asked)
+      pub arrivals-ran : (asked : TimePoint) → Ran asked [] 0 (legsIn os + obstaclesIn os + 1) (arrivals v os asked)
       unfolding arrivals
-      arrivals-ran asked = search-ran (legsIn os + moving os + 1) asked [] 0
+      arrivals-ran asked = search-ran (legsIn os + obstaclesIn os + 1) asked [] 0

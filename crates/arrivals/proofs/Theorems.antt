@@ -9,7 +9,7 @@ use native.Mathlib.Omega.{arith}
 use lib.ListN.{length}
 use lib.Signed.{_<ℤ_}
 use Rattle.numbers.specs.declared.time.TimePoint.{TimePoint}
-use Rattle.arrivals.specs.Search.{View, Answered, Refused, Unfinished, arrivals, legsIn, moving}
+use Rattle.arrivals.specs.Search.{View, Answered, Refused, Unfinished, arrivals, legsIn, obstaclesIn}
 use Rattle.arrivals.specs.Sweeps.{All, Rising, Source, Then, Stuck, Gives, Ruled, Refuses, Early}
 use Rattle.arrivals.proofs.Legs.{Any}
 use Rattle.arrivals.proofs.Remaining.{remaining-bound}
@@ -24,7 +24,7 @@ later v os t = then-later v os t .0
 
 module _ {Leg : Type 0} (v : View Leg) (os : List (List Leg)) (asked : TimePoint) where
   answered : {l : List TimePoint} {n : ℕ} →
-      arrivals v os asked ≡ Answered l n → Answers v os asked [] 0 (legsIn os + moving os + 1) l n
+      arrivals v os asked ≡ Answered l n → Answers v os asked [] 0 (legsIn os + obstaclesIn os + 1) l n
   answered e = rw e at (arrivals-ran v os Any (by-any v os) asked)
 
   -- The definition's bound is never met (RULES D3a).
@@ -43,11 +43,11 @@ module _ {Leg : Type 0} (v : View Leg) (os : List (List Leg)) (asked : TimePoint
 
       answers : {l : List TimePoint} {n : ℕ} → Gives v os asked [] l n → arrivals v os asked ≡ Answered l n
       answers {l} {n} g =
-          gives-answered v os g (legsIn os + moving os + 1) 0 (omega (arith, remaining-bound v os asked)) ∙
+          gives-answered v os g (legsIn os + obstaclesIn os + 1) 0 (omega (arith, remaining-bound v os asked)) ∙
           ap (Answered l) (zero-add n)
 
   -- At most L + O + 1 sweeps (RULES D3a).
-  pub at-most : {l : List TimePoint} {n : ℕ} → arrivals v os asked ≡ Answered l n → n ≤ legsIn os + moving os + 1
+  pub at-most : {l : List TimePoint} {n : ℕ} → arrivals v os asked ≡ Answered l n → n ≤ legsIn os + obstaclesIn os + 1
   at-most e = let a = answered e in omega arith
 
   -- No more times than sweeps (RULES 12.14).
@@ -66,7 +66,7 @@ module _ {Leg : Type 0} (v : View Leg) (os : List (List Leg)) (asked : TimePoint
   pub stuck-is-refused : Stuck v os asked → arrivals v os asked ≡ Refused 8
   unfolding arrivals
   stuck-is-refused s =
-      stuck-refused v os (s .reached) (s .back) (legsIn os + moving os + 1) [] 0 (omega (arith, remaining-bound v os asked))
+      stuck-refused v os (s .reached) (s .back) (legsIn os + obstaclesIn os + 1) [] 0 (omega (arith, remaining-bound v os asked))
 
   -- and nothing else is, where no leg itself is refused by 8 or more (RULES D3e).
   pub stuck : All (All (Early v)) os → (arrivals v os asked ≡ Refused 8) ↔ Stuck v os asked

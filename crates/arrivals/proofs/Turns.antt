@@ -8,7 +8,7 @@ use Prim.Native.Nat.{ℕ, zero, suc}
 use lib.Signed.{ltZ, ≤ℤ-refl}
 use Rattle.numbers.specs.declared.time.TimePoint.{TimePoint}
 use Rattle.numbers.proofs.Integers.{at-most→not-below}
-use Rattle.arrivals.specs.Search.{View, listed, turned, soonest, sweep, turn}
+use Rattle.arrivals.specs.Search.{View, listsQuiet, turned, soonest, sweep, turn}
 use Rattle.arrivals.specs.Sweeps.{All, Sweep, Loses}
 use Rattle.arrivals.specs.declared.next.Next.{Next}
 use Rattle.arrivals.specs.declared.next.Next.the-variants as X
@@ -67,7 +67,7 @@ module _ {Leg : Type 0} (v : View Leg) (os : List (List Leg)) where
     Told a (T.Refused m) = R m ⊎ ((m ≡ 8) × ((n : ℕ) × Sweep v os a (suc n) a))
 
     module _ (gives : All (ObstacleGives v Any R) os) (a : TimePoint) where
-      listed-told : Sweep v os a zero a → (x : Next) → soonest v a X.Missing os ≡ x → Told a (listed x)
+      listed-told : Sweep v os a zero a → (x : Next) → soonest v a X.Missing os ≡ x → Told a (listsQuiet x)
       listed-told s X.Missing e = (s, e)
       listed-told s (X.At t) e = (s, e)
       listed-told s (X.Refused m) e = inl (rw e at (soonest-gives v Any R a X.Missing os tt gives))

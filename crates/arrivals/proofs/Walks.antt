@@ -9,9 +9,9 @@ use lib.Signed.{ltZ, _≤ℤ_, ltZ-yes, ltZ-no}
 use Rattle.floats.proofs.Tests.{passed, failed}
 use Rattle.numbers.specs.declared.time.TimePoint.{TimePoint}
 use Rattle.numbers.proofs.Integers.{at-most-trans}
-use Rattle.numbers.proofs.Reach.{both}
+use Rattle.numbers.proofs.Exact.{both}
 use Rattle.arrivals.specs.Legs.{meets, sooner}
-use Rattle.arrivals.specs.Search.{View, looked, orElse, found, swept, finish, last, says, exits, flee, look, adjust}
+use Rattle.arrivals.specs.Search.{View, looked, orNext, found, swept, finish, last, says, exits, flee, look, adjust}
 use Rattle.arrivals.specs.Search.{nextAt, nextIn, next, soonest, sweep}
 use Rattle.arrivals.specs.Sweeps.{All, finishOf, Fair, Joined, Ruled}
 use Rattle.arrivals.specs.declared.says.Says.{Says}
@@ -54,7 +54,7 @@ looked-gives Q R (S.Out t) go flee h k m = h
 looked-gives Q R (S.Refused n) go flee h k m = h
 
 or-else-gives : (Q : TimePoint → Type 0) (R : ℕ → Type 0) (t : Next) (go : Unit {0} → Next) →
-    OnNext Q R t → OnNext Q R (go tt) → OnNext Q R (orElse t go)
+    OnNext Q R t → OnNext Q R (go tt) → OnNext Q R (orNext t go)
 or-else-gives Q R X.Missing go h k = k
 or-else-gives Q R (X.At t) go h k = h
 or-else-gives Q R (X.Refused n) go h k = h

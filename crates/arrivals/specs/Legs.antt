@@ -3,6 +3,7 @@
 use mathlib.Core.Bool.{cond}
 use lib.IntN.{pos}
 use lib.Signed.{ltZ}
+use Rattle.refusals.specs.Names.{STRAYED, LATE}
 use Rattle.numbers.specs.Time.{instantAfter, laterOf}
 use Rattle.numbers.specs.declared.time.TimePoint.{TimePoint}
 use Rattle.numbers.specs.declared.time.Instant.{Instant}
@@ -24,8 +25,8 @@ meets c (P.Refused n) = Refused n
 
 -- The exit, and no instant before the candidate; 9 where it lies more than 10,000 ns before it (RULES 12.9).
 abbrev pub leftAt : TimePoint → TimePoint → Instant → Says
-leftAt c exit (I.At late) = cond (ltZ (late .0) (c .0)) (Refused 9) (Out (laterOf exit c))
-leftAt c exit I.Strayed = Refused 7
+leftAt c exit (I.At late) = cond (ltZ (late .0) (c .0)) (Refused LATE) (Out (laterOf exit c))
+leftAt c exit I.Strayed = Refused STRAYED
 
 -- While violated: the exit alone is read (RULES 12.8).
 unfoldable pub relieved : TimePoint → Proximity → Says

@@ -5,6 +5,7 @@ use mathlib.Core.Bool.{Bool, true, false, cond, _&&_}
 use mathlib.Core.List.{List, [], _∷_, _++_}
 use lib.ListN.{length}
 use lib.Signed.{ltZ}
+use Rattle.refusals.specs.Names.{STUCK}
 use Rattle.numbers.specs.declared.time.TimePoint.{TimePoint}
 use Rattle.proximity.specs.declared.detect.Proximity.{Proximity}
 use Rattle.arrivals.specs.Legs.{meets, relieved, follows, sooner}
@@ -28,10 +29,10 @@ pub record View (Leg : Type 0) : Type 0 where
   pub ends-near : Leg → Bool
 
 -- The list and the count of sweeps, or a refusal. `Unfinished` is never the answer: `finished` of proofs/Theorems.
-pub data Answer : Type 0 where
-  Answered : List TimePoint → ℕ → Answer
-  Refused : ℕ → Answer
-  Unfinished : Answer
+pub data Searched : Type 0 where
+  Answered : List TimePoint → ℕ → Searched
+  Refused : ℕ → Searched
+  Unfinished : Searched
 
 -- ---- Going on. What comes next is handed over as a function, so that a definition computes no more than it needs.
 
@@ -43,10 +44,10 @@ looked S.Held go flee = flee tt
 looked (S.Out t) go flee = A.Pushed t
 looked (S.Refused n) go flee = A.Refused n
 
-abbrev pub orElse : Next → (Unit {0} → Next) → Next
-orElse X.Missing go = go tt
-orElse (X.At t) go = X.At t
-orElse (X.Refused n) go = X.Refused n
+abbrev pub orNext : Next → (Unit {0} → Next) → Next
+orNext X.Missing go = go tt
+orNext (X.At t) go = X.At t
+orNext (X.Refused n) go = X.Refused n
 
 -- With the next obstacle, the best so far in hand.
 abbrev pub found : Next → Next → (Next → Next) → Next
@@ -62,21 +63,21 @@ swept A.Lost c pushed go = W.Lost
 swept (A.Refused n) c pushed go = W.Refused n
 
 -- A quiet sweep lists its candidate (RULES 12.14, 12.17).
-abbrev pub listed : Next → Turn
-listed X.Missing = T.Lists
-listed (X.At t) = T.ListsGoes t
-listed (X.Refused n) = T.Refused n
+abbrev pub listsQuiet : Next → Turn
+listsQuiet X.Missing = T.Lists
+listsQuiet (X.At t) = T.ListsGoes t
+listsQuiet (X.Refused n) = T.Refused n
 
 -- A push with no result ends the search; a whole sweep of pushes that leaves the candidate where it was is stuck
 -- (RULES 12.11 to 12.14).
 abbrev pub turned : Swept → TimePoint → (Unit {0} → Next) → Turn
-turned W.Still c next = listed (next tt)
-turned (W.Moved t) c next = cond (ltZ (c .0) (t .0)) (T.Goes t) (cond (ltZ (t .0) (c .0)) (T.Goes t) (T.Refused 8))
+turned W.Still c next = listsQuiet (next tt)
+turned (W.Moved t) c next = cond (ltZ (c .0) (t .0)) (T.Goes t) (cond (ltZ (t .0) (c .0)) (T.Goes t) (T.Refused STUCK))
 turned W.Lost c next = T.Ends
 turned (W.Refused n) c next = T.Refused n
 
 -- The sweep is counted, and its candidate listed where it was quiet (RULES 12.11, 12.14, 12.18).
-abbrev pub gone : Turn → TimePoint → List TimePoint → ℕ → (TimePoint → List TimePoint → ℕ → Answer) → Answer
+abbrev pub gone : Turn → TimePoint → List TimePoint → ℕ → (TimePoint → List TimePoint → ℕ → Searched) → Searched
 gone T.Ends c l n go = Answered l (suc n)
 gone T.Lists c l n go = Answered (l ++ (c ∷ [])) (suc n)
 gone (T.Goes t) c l n go = go t l (suc n)
@@ -91,10 +92,10 @@ legsIn [] = 0
 legsIn (o ∷ os) = length o + legsIn os
 
 -- O: the obstacles with a trajectory.
-unfoldable pub moving : {Leg : Type 0} → List (List Leg) → ℕ
-moving [] = 0
-moving ([] ∷ os) = moving os
-moving ((l ∷ ls) ∷ os) = suc (moving os)
+unfoldable pub obstaclesIn : {Leg : Type 0} → List (List Leg) → ℕ
+obstaclesIn [] = 0
+obstaclesIn ([] ∷ os) = obstaclesIn os
+obstaclesIn ((l ∷ ls) ∷ os) = suc (obstaclesIn os)
 
 module _ {Leg : Type 0} (v : View Leg) where
   -- The time of the last waypoint, and the leg that ends there.
@@ -134,7 +135,7 @@ module _ {Leg : Type 0} (v : View Leg) where
 
   unfoldable pub nextIn : TimePoint → Next → List Leg → Next
   nextIn p end [] = end
-  nextIn p end (l ∷ ls) = orElse (nextAt p l) (λ _. nextIn p end ls)
+  nextIn p end (l ∷ ls) = orNext (nextAt p l) (λ _. nextIn p end ls)
 
   -- `find_next_candidate_time`: the first exit after p, else the finish, where it is after p and the obstacle ends near
   -- (RULES 12.15, 12.16).
@@ -159,10 +160,10 @@ module _ {Leg : Type 0} (v : View Leg) where
   turn os c = turned (sweep c false os) c (λ _. soonest c X.Missing os)
 
   -- At most k sweeps more, with the list and the sweeps so far.
-  unfoldable pub search : List (List Leg) → ℕ → TimePoint → List TimePoint → ℕ → Answer
+  unfoldable pub search : List (List Leg) → ℕ → TimePoint → List TimePoint → ℕ → Searched
   search os zero c l n = Unfinished
   search os (suc k) c l n = gone (turn os c) c l n (search os k)
 
   -- The safe arrival times from the time asked for on (RULES 12.3, 12.18). The bound is demand 3's own, L + O + 1, and never met.
-  unfoldable pub arrivals : List (List Leg) → TimePoint → Answer
-  arrivals os asked = search os (legsIn os + moving os + 1) asked [] 0
+  unfoldable pub arrivals : List (List Leg) → TimePoint → Searched
+  arrivals os asked = search os (legsIn os + obstaclesIn os + 1) asked [] 0

@@ -53,10 +53,10 @@ pub fn says_exit(near: Proximity, candidate: TimePoint) -> Says
     };
     let latest = exit.plus(Duration(10000));
     let Instant::At(late) = latest else {
-        return Says::Refused(7);
+        return Says::Refused(refusals::STRAYED);
     };
     if late.is_before(candidate) {
-        return Says::Refused(9);
+        return Says::Refused(refusals::LATE);
     }
     Says::Out(exit.max(candidate))
 }

@@ -3,6 +3,7 @@
 use Prim.Native.Nat.{ℕ}
 use mathlib.Core.Bool.{Bool, cond}
 use lib.Dec.{leb, eqb}
+use Rattle.refusals.specs.Names.{NUMBER, SHAPE}
 use Rattle.limits.specs.declared.domain.Examined.{Examined}
 use Rattle.limits.specs.declared.domain.Examined.the-variants as X
 
@@ -12,8 +13,8 @@ isBudget budget = leb budget 65535
 
 -- A ground for 1: it comes after any for 2, and before 3 (RULES 5.1).
 abbrev pub numbered : Examined → Examined
-numbered X.Fine = X.Refused 1
-numbered (X.Refused n) = cond (eqb n 2) (X.Refused 2) (X.Refused 1)
+numbered X.Fine = X.Refused NUMBER
+numbered (X.Refused n) = cond (eqb n SHAPE) (X.Refused SHAPE) (X.Refused NUMBER)
 
 -- What is found where numbers beside those examined must be in the table as well.
 unfoldable pub withNumbers : Bool → Examined → Examined
@@ -21,4 +22,4 @@ withNumbers ok e = cond ok e (numbered e)
 
 -- What is found with hints that are refused by this number, 0 for none: 2 for their count, else 1 (RULES 11.9, 11.10).
 unfoldable pub withLent : ℕ → Examined → Examined
-withLent refused e = cond (eqb refused 0) e (cond (eqb refused 2) (X.Refused 2) (numbered e))
+withLent refused e = cond (eqb refused 0) e (cond (eqb refused SHAPE) (X.Refused SHAPE) (numbered e))

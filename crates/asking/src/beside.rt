@@ -28,12 +28,12 @@ fn by_number(found: Examined) -> Examined
     ensures { λ r. ⌜ r ≡ numbered found ⌝ }
 {
     match found {
-        Examined::Fine => Examined::Refused(1),
+        Examined::Fine => Examined::Refused(refusals::NUMBER),
         Examined::Refused(n) => {
-            if n == 2 {
-                return Examined::Refused(2);
+            if n == refusals::SHAPE {
+                return Examined::Refused(refusals::SHAPE);
             }
-            Examined::Refused(1)
+            Examined::Refused(refusals::NUMBER)
         }
     }
 }
@@ -55,8 +55,8 @@ pub fn with_lent(refused: u64, found: Examined) -> Examined
     if refused == 0 {
         return found;
     }
-    if refused == 2 {
-        return Examined::Refused(2);
+    if refused == refusals::SHAPE {
+        return Examined::Refused(refusals::SHAPE);
     }
     by_number(found)
 }

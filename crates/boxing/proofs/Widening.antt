@@ -5,7 +5,7 @@ use mathlib.Core.Path.{_≡_}
 use lib.Ieee.{Float}
 use Rattle.lists.specs.Listed.{listedTo}
 use Rattle.lists.proofs.Listed.{listed-done, listed-next}
-use Rattle.floats.specs.Size.{nought}
+use Rattle.floats.specs.Constants.{nought}
 use Rattle.shapes.specs.Box.{boxOfPoint, incorporating, inflated}
 use Rattle.shapes.specs.declared.bounding_box.BoundingBox.{BoundingBox}
 use Rattle.shapes.specs.declared.waypoint.Waypoint.{Waypoint}

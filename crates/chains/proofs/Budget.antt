@@ -11,11 +11,11 @@ use borrow.Author.Tests.{leb-true, leb-false}
 use lib.Dec.{ltb, leb}
 use Rattle.chains.specs.declared.trial.Trial.{Trial}
 use Rattle.chains.specs.declared.trial.Trial.the-variants as T
-use Rattle.chains.specs.Answer.{Answer, Refused, popsOf, isSpent}
+use Rattle.chains.specs.Answer.{Chained, Refused, popsOf, isSpent}
 use Rattle.chains.specs.Stack as S
 use Rattle.chains.specs.Recursive as R
 use Rattle.chains.specs.Recursive.{Tried, Found, Blocked, Unreached, Stopped}
-use Rattle.chains.specs.Recursive.{popped, arrivedBy, startedBy, offer, after, rooted}
+use Rattle.chains.specs.Recursive.{popped, arrivedBy, startedBy, offer, afterChild, atRoot}
 use Rattle.chains.proofs.Agree.{stack-is-recursion}
 use Rattle.chains.proofs.Pops.{triedPops}
 use Rattle.chains.proofs.Growing.{Grows, popped-grows, arrived-grows, children-grows, roots-grow}
@@ -27,7 +27,7 @@ module _ (b c : ℕ) (le : b ≤ c) where
     pub short : b < triedPops u → t ≡ Stopped 11 b
 
   -- The same of whole searches.
-  pub record CutAnswer (t u : Answer) : Type 0 where
+  pub record CutAnswer (t u : Chained) : Type 0 where
     pub same : popsOf u ≤ b → t ≡ u
     pub short : b < popsOf u → t ≡ Refused 11 b
 
@@ -64,38 +64,38 @@ module _ (b c : ℕ) (le : b ≤ c) where
   offer-cut false f g cuts p h = alike (Unreached p) h
 
   -- Hint i goes on after a child with p pops, where those fit b; where they do not, it is refused under b.
-  onward : (t : Tried) (i p : ℕ) (f g : ℕ → Tried) → (p ≤ b → after t i f ≡ f p) → (b < p → after t i f ≡ Stopped 11 b) →
-      Cuts f g → Grows g → Cut (after t i f) (g p)
+  onward : (t : Tried) (i p : ℕ) (f g : ℕ → Tried) → (p ≤ b → afterChild t i f ≡ f p) → (b < p → afterChild t i f ≡ Stopped 11 b) →
+      Cuts f g → Grows g → Cut (afterChild t i f) (g p)
   onward t i p f g fit past cuts grows = record {
     same = λ few. let h : p ≤ b = omega (arith, grows p) in fit h ∙ cuts p h .same few;
     short = λ many. by (leb p b) refl many;
   }
     where
-      by : (x : Bool) → leb p b ≡ x → b < triedPops (g p) → after t i f ≡ Stopped 11 b
+      by : (x : Bool) → leb p b ≡ x → b < triedPops (g p) → afterChild t i f ≡ Stopped 11 b
       by true e many = let h : p ≤ b = leb-true p b e in fit h ∙ cuts p h .short many
       by false e many = past (leb-false p b e)
 
-  after-cut : (t u : Tried) (i : ℕ) (f g : ℕ → Tried) → Cut t u → Cuts f g → Grows g → Cut (after t i f) (after u i g)
+  after-cut : (t u : Tried) (i : ℕ) (f g : ℕ → Tried) → Cut t u → Cuts f g → Grows g → Cut (afterChild t i f) (afterChild u i g)
   after-cut t (Found l p) i f g k cuts grows = record { same = λ h. rw (k .same h); short = λ h. rw (k .short h) }
   after-cut t (Blocked p) i f g k cuts grows = onward t i p f g (λ h. rw (k .same h)) (λ h. rw (k .short h)) cuts grows
   after-cut t (Unreached p) i f g k cuts grows = onward t i p f g (λ h. rw (k .same h)) (λ h. rw (k .short h)) cuts grows
   after-cut t (Stopped n p) i f g k cuts grows = record { same = λ h. rw (k .same h); short = λ h. rw (k .short h) }
 
-  rooted-cut : (t u : Tried) (f g : ℕ → Answer) → Cut t u → ((p : ℕ) → p ≤ b → CutAnswer (f p) (g p)) →
-      ((p : ℕ) → p ≤ popsOf (g p)) → CutAnswer (rooted t f) (rooted u g)
+  rooted-cut : (t u : Tried) (f g : ℕ → Chained) → Cut t u → ((p : ℕ) → p ≤ b → CutAnswer (f p) (g p)) →
+      ((p : ℕ) → p ≤ popsOf (g p)) → CutAnswer (atRoot t f) (atRoot u g)
   rooted-cut t (Found l p) f g k cuts grows = record { same = λ h. rw (k .same h); short = λ h. rw (k .short h) }
   rooted-cut t (Blocked p) f g k cuts grows = record {
     same = λ few. let h : p ≤ b = omega (arith, grows p) in rw (k .same h) (cuts p h .same few);
     short = λ many. by (leb p b) refl many;
   }
     where
-      by : (x : Bool) → leb p b ≡ x → b < popsOf (g p) → rooted t f ≡ Refused 11 b
+      by : (x : Bool) → leb p b ≡ x → b < popsOf (g p) → atRoot t f ≡ Refused 11 b
       by true e many = let h : p ≤ b = leb-true p b e in rw (k .same h) (cuts p h .short many)
       by false e many = rw (k .short (leb-false p b e))
   rooted-cut t (Unreached p) f g k cuts grows = record { same = λ h. rw (k .same h); short = λ h. rw (k .short h) }
   rooted-cut t (Stopped n p) f g k cuts grows = record { same = λ h. rw (k .same h); short = λ h. rw (k .short h) }
 
-  past-cut : (x : Bool) → leb b 0 ≡ x → (y : Bool) → leb c 0 ≡ y → CutAnswer (R.pastEnd x) (R.pastEnd y)
+  past-cut : (x : Bool) → leb b 0 ≡ x → (y : Bool) → leb c 0 ≡ y → CutAnswer (R.pastLastRoot x) (R.pastLastRoot y)
   past-cut true e true d = record { same = λ few. refl; short = λ many. absurd (omega arith) }
   past-cut true e false d =
       let all : b ≤ 0 = leb-true b 0 e in
@@ -113,10 +113,10 @@ module _ (b c : ℕ) (le : b ≤ c) where
     abbrev hintIn : ℕ → (ℕ → Tried) → ℕ → Option ℕ → ℕ → Tried
     hintIn = R.hintBy toParent fromStart reaches
 
-    abbrev rootsIn : ℕ → ℕ → ℕ → ℕ → Answer
+    abbrev rootsIn : ℕ → ℕ → ℕ → ℕ → Chained
     rootsIn = R.tryRoots toParent fromStart reaches
 
-    abbrev searchIn : ℕ → ℕ → Option ℕ → Answer
+    abbrev searchIn : ℕ → ℕ → Option ℕ → Chained
     searchIn budget count = R.recursiveSearch toParent fromStart reaches count budget
 
     hint-cut : (i : ℕ) (parent : Option ℕ) (f g : ℕ → Tried) → Cuts f g → Grows g →
@@ -177,7 +177,7 @@ module _ (b c : ℕ) (le : b ≤ c) where
           by false e = absurd (true≢false (sym (ap isSpent (budget-cut .short (leb-false _ b e))) ∙ answered))
 
       -- The same of the stack machine.
-      pub stack-kept : (a : Answer) → S.stackSearch toParent fromStart reaches count b r ≡ S.Done a → isSpent a ≡ false →
+      pub stack-kept : (a : Chained) → S.stackSearch toParent fromStart reaches count b r ≡ S.Done a → isSpent a ≡ false →
           S.stackSearch toParent fromStart reaches count c r ≡ S.Done a
       stack-kept a e answered =
           let small : searchIn b count r ≡ a = cc (stack-is-recursion toParent fromStart reaches count b r) in

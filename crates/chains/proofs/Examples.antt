@@ -8,7 +8,7 @@ use Prim.Native.Nat.{ℕ}
 use lib.Dec.{eqb}
 use Rattle.chains.specs.declared.trial.Trial.{Trial}
 use Rattle.chains.specs.declared.trial.Trial.the-variants as T
-use Rattle.chains.specs.Answer.{Answer, Way, NoWay, Refused}
+use Rattle.chains.specs.Answer.{Chained, Way, NoWay, Refused}
 use Rattle.chains.specs.Stack.{Done, stackSearch}
 use Rattle.chains.specs.Recursive.{recursiveSearch}
 
@@ -45,7 +45,7 @@ passedOver child i = false
 -- ---- Searches.
 
 pub record Both (toParent : ℕ → Option ℕ → Trial) (fromStart : ℕ → Trial) (reaches : ℕ → ℕ → Bool)
-    (count budget : ℕ) (first : Option ℕ) (a : Answer) : Type 0 where
+    (count budget : ℕ) (first : Option ℕ) (a : Chained) : Type 0 where
   pub machine : stackSearch toParent fromStart reaches count budget first ≡ Done a
   pub recursion : recursiveSearch toParent fromStart reaches count budget first ≡ a
 

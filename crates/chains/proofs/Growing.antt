@@ -7,10 +7,10 @@ use native.Mathlib.Omega.{arith}
 use lib.Dec.{leb}
 use Rattle.chains.specs.declared.trial.Trial.{Trial}
 use Rattle.chains.specs.declared.trial.Trial.the-variants as T
-use Rattle.chains.specs.Answer.{Answer, popsOf}
+use Rattle.chains.specs.Answer.{Chained, popsOf}
 use Rattle.chains.specs.Recursive as R
 use Rattle.chains.specs.Recursive.{Tried, Found, Blocked, Unreached, Stopped}
-use Rattle.chains.specs.Recursive.{popped, arrivedBy, startedBy, offer, after, rooted}
+use Rattle.chains.specs.Recursive.{popped, arrivedBy, startedBy, offer, afterChild, atRoot}
 use Rattle.chains.proofs.Pops.{triedPops}
 
 -- No fewer pops after than before.
@@ -35,13 +35,13 @@ offer-grows : (b : Bool) (f : ℕ → Tried) → Grows f → Grows (offer b f)
 offer-grows true f grows p = grows p
 offer-grows false f grows p = omega arith
 
-after-grows : (p : ℕ) (t : Tried) (i : ℕ) (f : ℕ → Tried) → p ≤ triedPops t → Grows f → p ≤ triedPops (after t i f)
+after-grows : (p : ℕ) (t : Tried) (i : ℕ) (f : ℕ → Tried) → p ≤ triedPops t → Grows f → p ≤ triedPops (afterChild t i f)
 after-grows p (Found l q) i f le grows = le
 after-grows p (Blocked q) i f le grows = omega (arith, grows q)
 after-grows p (Unreached q) i f le grows = omega (arith, grows q)
 after-grows p (Stopped n q) i f le grows = le
 
-rooted-grows : (p : ℕ) (t : Tried) (f : ℕ → Answer) → p ≤ triedPops t → ((q : ℕ) → q ≤ popsOf (f q)) → p ≤ popsOf (rooted t f)
+rooted-grows : (p : ℕ) (t : Tried) (f : ℕ → Chained) → p ≤ triedPops t → ((q : ℕ) → q ≤ popsOf (f q)) → p ≤ popsOf (atRoot t f)
 rooted-grows p (Found l q) f le grows = le
 rooted-grows p (Blocked q) f le grows = omega (arith, grows q)
 rooted-grows p (Unreached q) f le grows = le
@@ -54,7 +54,7 @@ module _ (toParent : ℕ → Option ℕ → Trial) (fromStart : ℕ → Trial) (
   abbrev hintBy : (ℕ → Tried) → ℕ → Option ℕ → ℕ → Tried
   hintBy = R.hintBy toParent fromStart reaches budget
 
-  abbrev roots : ℕ → ℕ → ℕ → Answer
+  abbrev roots : ℕ → ℕ → ℕ → Chained
   roots = R.tryRoots toParent fromStart reaches budget
 
   hint-grows : (i : ℕ) (parent : Option ℕ) (f : ℕ → Tried) → Grows f → Grows (hintBy f i parent)

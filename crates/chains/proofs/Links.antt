@@ -12,11 +12,11 @@ use lib.Dec.{ltb, leb}
 use lib.ListN.{length, take, set, length-append}
 use Rattle.chains.specs.declared.trial.Trial.{Trial}
 use Rattle.chains.specs.declared.trial.Trial.the-variants as T
-use Rattle.chains.specs.Answer.{Answer, Way, NoWay, Refused}
+use Rattle.chains.specs.Answer.{Chained, Way, NoWay, Refused}
 use Rattle.chains.specs.Recursive as R
 use Rattle.chains.specs.Recursive.{Tried, Found, Blocked, Unreached, Stopped}
-use Rattle.chains.specs.Recursive.{popped, arrivedBy, startedBy, offer, after, rooted}
-use Rattle.chains.specs.Handed.{pad, chainOf, linksIn, onto, handed}
+use Rattle.chains.specs.Recursive.{popped, arrivedBy, startedBy, offer, afterChild, atRoot}
+use Rattle.chains.specs.Handed.{pad, chainOf, linksIn, ontoChain, handed}
 
 -- ---- The places.
 
@@ -44,11 +44,11 @@ unfolding chainOf linksIn
 chain-back l h = let all : min 64 (length l) ≡ length l = omega arith in rw all (take-pad 64 l h)
 
 -- One link more, as the code puts it there.
-pub one-link : (l : List ℕ) (i p : ℕ) → handed (Found (l ++ i ∷ []) p) ≡ onto (handed (Found l p)) i
+pub one-link : (l : List ℕ) (i p : ℕ) → handed (Found (l ++ i ∷ []) p) ≡ ontoChain (handed (Found l p)) i
 unfolding chainOf
 one-link l i p = by (leb 64 (min 64 (length l))) refl
   where
-    by : (full : Bool) → leb 64 (min 64 (length l)) ≡ full → handed (Found (l ++ i ∷ []) p) ≡ onto (handed (Found l p)) i
+    by : (full : Bool) → leb 64 (min 64 (length l)) ≡ full → handed (Found (l ++ i ∷ []) p) ≡ ontoChain (handed (Found l p)) i
     by true e =
         let h : 64 ≤ length l = omega (arith, leb-true 64 (min 64 (length l)) e) in
         let n : min 64 (length (l ++ i ∷ [])) ≡ min 64 (length l) = omega (arith, length-append l (i ∷ [])) in
@@ -68,7 +68,7 @@ links (Unreached p) = 0
 links (Stopped n p) = 0
 
 -- The hints of a way.
-abbrev pub wayLinks : Answer → ℕ
+abbrev pub wayLinks : Chained → ℕ
 wayLinks (Way l p) = length l
 wayLinks (NoWay p) = 0
 wayLinks (Refused n p) = 0
@@ -95,19 +95,19 @@ offer-links : (m : ℕ) (b : Bool) (f : ℕ → Tried) → AtMost m f → AtMost
 offer-links m true f h p = h p
 offer-links m false f h p = omega arith
 
-after-links : (m : ℕ) (t : Tried) (i : ℕ) (f : ℕ → Tried) → links t ≤ m → AtMost (m + 1) f → links (after t i f) ≤ m + 1
+after-links : (m : ℕ) (t : Tried) (i : ℕ) (f : ℕ → Tried) → links t ≤ m → AtMost (m + 1) f → links (afterChild t i f) ≤ m + 1
 after-links m (Found l p) i f h g = omega (arith, length-append l (i ∷ []))
 after-links m (Blocked p) i f h g = g p
 after-links m (Unreached p) i f h g = g p
 after-links m (Stopped n p) i f h g = omega arith
 
-rooted-links : (m : ℕ) (t : Tried) (f : ℕ → Answer) → links t ≤ m → ((p : ℕ) → wayLinks (f p) ≤ m) → wayLinks (rooted t f) ≤ m
+rooted-links : (m : ℕ) (t : Tried) (f : ℕ → Chained) → links t ≤ m → ((p : ℕ) → wayLinks (f p) ≤ m) → wayLinks (atRoot t f) ≤ m
 rooted-links m (Found l p) f h g = h
 rooted-links m (Blocked p) f h g = g p
 rooted-links m (Unreached p) f h g = omega arith
 rooted-links m (Stopped n p) f h g = omega arith
 
-past-links : (m : ℕ) (spent : Bool) → wayLinks (R.pastEnd spent) ≤ m
+past-links : (m : ℕ) (spent : Bool) → wayLinks (R.pastLastRoot spent) ≤ m
 past-links m true = omega arith
 past-links m false = omega arith
 
@@ -118,7 +118,7 @@ module _ (toParent : ℕ → Option ℕ → Trial) (fromStart : ℕ → Trial) (
   abbrev hintBy : (ℕ → Tried) → ℕ → Option ℕ → ℕ → Tried
   hintBy = R.hintBy toParent fromStart reaches budget
 
-  abbrev roots : ℕ → ℕ → ℕ → Answer
+  abbrev roots : ℕ → ℕ → ℕ → Chained
   roots = R.tryRoots toParent fromStart reaches budget
 
   hint-links : (m i : ℕ) (parent : Option ℕ) (f : ℕ → Tried) → AtMost m f → AtMost m (hintBy f i parent)
@@ -133,7 +133,7 @@ module _ (toParent : ℕ → Option ℕ → Trial) (fromStart : ℕ → Trial) (
       let hint : ℕ → Tried = hintBy (children k k) k (some i) in
       let again : ℕ → Tried = λ q. popped (leb budget q) (children i k) q in
       let few : AtMost ((k + 1) + 1) (children i k) = λ q. omega (arith, children-links i k q) in
-      let h : links (after (offer (reaches k i) hint p) i again) ≤ (k + 1) + 1 =
+      let h : links (afterChild (offer (reaches k i) hint p) i again) ≤ (k + 1) + 1 =
       after-links (k + 1) (offer (reaches k i) hint p) i again
       (offer-links (k + 1) (reaches k i) hint (hint-links (k + 1) k (some i) (children k k) (children-links k k)) p)
       (λ q. popped-links ((k + 1) + 1) (leb budget q) (children i k) few q)

@@ -9,11 +9,11 @@ use borrow.Author.Tests.{leb-false}
 use lib.Dec.{ltb, leb}
 use Rattle.chains.specs.declared.trial.Trial.{Trial}
 use Rattle.chains.specs.declared.trial.Trial.the-variants as T
-use Rattle.chains.specs.Answer.{Answer, popsOf}
+use Rattle.chains.specs.Answer.{Chained, popsOf}
 use Rattle.chains.specs.Stack as S
 use Rattle.chains.specs.Recursive as R
 use Rattle.chains.specs.Recursive.{Tried, Found, Blocked, Unreached, Stopped}
-use Rattle.chains.specs.Recursive.{popped, arrivedBy, startedBy, offer, after, rooted}
+use Rattle.chains.specs.Recursive.{popped, arrivedBy, startedBy, offer, afterChild, atRoot}
 use Rattle.chains.proofs.Agree.{stack-is-recursion}
 
 -- The pops made once a hint was tried.
@@ -52,20 +52,20 @@ module _ (budget : ℕ) where
   offer-within true f keeps p le = keeps p le
   offer-within false f keeps p le = le
 
-  after-within : (t : Tried) (i : ℕ) (f : ℕ → Tried) → Within t → Keeps f → Within (after t i f)
+  after-within : (t : Tried) (i : ℕ) (f : ℕ → Tried) → Within t → Keeps f → Within (afterChild t i f)
   after-within (Found l p) i f le keeps = le
   after-within (Blocked p) i f le keeps = keeps p le
   after-within (Unreached p) i f le keeps = keeps p le
   after-within (Stopped n p) i f le keeps = le
 
-  rooted-within : (t : Tried) (f : ℕ → Answer) → Within t →
-      ((p : ℕ) → p ≤ budget → popsOf (f p) ≤ budget) → popsOf (rooted t f) ≤ budget
+  rooted-within : (t : Tried) (f : ℕ → Chained) → Within t →
+      ((p : ℕ) → p ≤ budget → popsOf (f p) ≤ budget) → popsOf (atRoot t f) ≤ budget
   rooted-within (Found l p) f le keeps = le
   rooted-within (Blocked p) f le keeps = keeps p le
   rooted-within (Unreached p) f le keeps = le
   rooted-within (Stopped n p) f le keeps = le
 
-  past-within : (spent : Bool) → leb budget 0 ≡ spent → popsOf (R.pastEnd spent) ≤ budget
+  past-within : (spent : Bool) → leb budget 0 ≡ spent → popsOf (R.pastLastRoot spent) ≤ budget
   past-within true e = omega arith
   past-within false e = omega (arith, leb-false budget 0 e)
 
@@ -76,7 +76,7 @@ module _ (budget : ℕ) where
     abbrev hintBy : (ℕ → Tried) → ℕ → Option ℕ → ℕ → Tried
     hintBy = R.hintBy toParent fromStart reaches budget
 
-    abbrev roots : ℕ → ℕ → ℕ → Answer
+    abbrev roots : ℕ → ℕ → ℕ → Chained
     roots = R.tryRoots toParent fromStart reaches budget
 
     hint-within : (i : ℕ) (parent : Option ℕ) (f : ℕ → Tried) → Keeps f → Keeps (hintBy f i parent)
@@ -111,7 +111,7 @@ module _ (budget : ℕ) where
       pops-within (some r) = from-within (ltb r count) r
 
       -- The same of the stack machine.
-      pub stack-within : (r : Option ℕ) (a : Answer) →
+      pub stack-within : (r : Option ℕ) (a : Chained) →
           S.stackSearch toParent fromStart reaches count budget r ≡ S.Done a → popsOf a ≤ budget
       stack-within r a e =
           let answer : R.recursiveSearch toParent fromStart reaches count budget r ≡ a =

@@ -11,11 +11,11 @@ use borrow.Author.Tests.{ltb-true}
 use lib.Dec.{ltb, leb}
 use Rattle.chains.specs.declared.trial.Trial.{Trial}
 use Rattle.chains.specs.declared.trial.Trial.the-variants as T
-use Rattle.chains.specs.Answer.{Answer, Way, NoWay, Refused}
+use Rattle.chains.specs.Answer.{Chained, Way, NoWay, Refused}
 use Rattle.chains.specs.Stack as S
 use Rattle.chains.specs.Recursive as R
 use Rattle.chains.specs.Recursive.{Tried, Found, Blocked, Unreached, Stopped}
-use Rattle.chains.specs.Recursive.{popped, arrivedBy, startedBy, offer, after, rooted}
+use Rattle.chains.specs.Recursive.{popped, arrivedBy, startedBy, offer, afterChild, atRoot}
 use Rattle.chains.specs.Safe.{SafeChain, SafeWay, one, more}
 use Rattle.chains.proofs.Agree.{stack-is-recursion}
 
@@ -34,7 +34,7 @@ module _ (toParent : ℕ → Option ℕ → Trial) (fromStart : ℕ → Trial) (
   SafeTo i parent (Unreached p) = Unit {0}
   SafeTo i parent (Stopped n p) = Unit {0}
 
-  abbrev SafeAnswer : ℕ → Answer → Type 0
+  abbrev SafeAnswer : ℕ → Chained → Type 0
   SafeAnswer count (Way l p) = SafeWay toParent fromStart reaches count l
   SafeAnswer count (NoWay p) = Unit {0}
   SafeAnswer count (Refused n p) = Unit {0}
@@ -67,11 +67,11 @@ module _ (toParent : ℕ → Option ℕ → Trial) (fromStart : ℕ → Trial) (
 
   -- The chain of a child k that was tried is one of i, with i behind it (RULES 13.13, 13.14).
   after-safe : (k i : ℕ) (tried : Bool) (f : ℕ → Tried) (p : ℕ) (go : ℕ → Tried) → k < i → reaches k i ≡ tried →
-      ((q : ℕ) → SafeTo k (some i) (f q)) → ((q : ℕ) → Safe i (go q)) → Safe i (after (offer tried f p) i go)
+      ((q : ℕ) → SafeTo k (some i) (f q)) → ((q : ℕ) → Safe i (go q)) → Safe i (afterChild (offer tried f p) i go)
   after-safe k i false f p go lower e child safe = safe p
   after-safe k i true f p go lower e child safe = by (f p) (child p)
     where
-      by : (t : Tried) → SafeTo k (some i) t → Safe i (after t i go)
+      by : (t : Tried) → SafeTo k (some i) t → Safe i (afterChild t i go)
       by (Found l q) found = more (found .0) lower e (found .1)
       by (Blocked q) found = safe q
       by (Unreached q) found = safe q
@@ -84,7 +84,7 @@ module _ (toParent : ℕ → Option ℕ → Trial) (fromStart : ℕ → Trial) (
     abbrev hintBy : (ℕ → Tried) → ℕ → Option ℕ → ℕ → Tried
     hintBy = R.hintBy toParent fromStart reaches budget
 
-    abbrev roots : ℕ → ℕ → ℕ → Answer
+    abbrev roots : ℕ → ℕ → ℕ → Chained
     roots = R.tryRoots toParent fromStart reaches budget
 
     hint-safe : (i : ℕ) (parent : Option ℕ) (f : ℕ → Tried) → ((q : ℕ) → Safe i (f q)) → (p : ℕ) →
@@ -104,8 +104,8 @@ module _ (toParent : ℕ → Option ℕ → Trial) (fromStart : ℕ → Trial) (
         (λ q. popped-safe i (leb budget q) (children i k) q (λ r. children-safe i k r (omega arith)))
 
     module _ (count : ℕ) where
-      rooted-safe : (r : ℕ) (t : Tried) (f : ℕ → Answer) → r < count → SafeTo r none t →
-          ((q : ℕ) → SafeAnswer count (f q)) → SafeAnswer count (rooted t f)
+      rooted-safe : (r : ℕ) (t : Tried) (f : ℕ → Chained) → r < count → SafeTo r none t →
+          ((q : ℕ) → SafeAnswer count (f q)) → SafeAnswer count (atRoot t f)
       rooted-safe r (Found l p) f there found safe = record { last = r; there = there; chain = found .0; goal = found .1 }
       rooted-safe r (Blocked p) f there found safe = safe p
       rooted-safe r (Unreached p) f there found safe = tt
@@ -120,7 +120,7 @@ module _ (toParent : ℕ → Option ℕ → Trial) (fromStart : ℕ → Trial) (
           (hint-safe r none (children r r) (λ q. children-safe r r q (omega arith)) p)
           (λ q. roots-safe n (r + 1) q (omega arith))
 
-      past-safe : (spent : Bool) → SafeAnswer count (R.pastEnd spent)
+      past-safe : (spent : Bool) → SafeAnswer count (R.pastLastRoot spent)
       past-safe true = tt
       past-safe false = tt
 

@@ -12,11 +12,11 @@ use Rattle.chains.specs.declared.trial.Trial.{Trial}
 use Rattle.chains.specs.declared.tried.Ending.{Ending}
 use Rattle.chains.specs.declared.tried.Ending.the-variants as E
 use Rattle.chains.specs.declared.tried.Tried as D
-use Rattle.chains.specs.Answer.{Answer, NoWay}
+use Rattle.chains.specs.Answer.{Chained, NoWay}
 use Rattle.chains.specs.Recursive as R
 use Rattle.chains.specs.Recursive.{Tried, Found, Blocked, Unreached, Stopped}
-use Rattle.chains.specs.Recursive.{popped, startedBy, offer, after, rooted}
-use Rattle.chains.specs.Handed.{plain, onto, handed, answered}
+use Rattle.chains.specs.Recursive.{popped, startedBy, offer, afterChild, atRoot}
+use Rattle.chains.specs.Handed.{plain, ontoChain, handed, answered}
 use Rattle.chains.proofs.Links.{one-link}
 
 -- One pop more, within the budget or not (RULES 13.21).
@@ -28,25 +28,25 @@ one-more budget p go h = rw (lt-leb budget p h)
 
 -- ---- What follows a child.
 
-after-found : (t : Tried) (i : ℕ) (go : ℕ → Tried) → handed t .ending ≡ E.Found → handed (after t i go) ≡ onto (handed t) i
+after-found : (t : Tried) (i : ℕ) (go : ℕ → Tried) → handed t .ending ≡ E.Found → handed (afterChild t i go) ≡ ontoChain (handed t) i
 after-found (Found l p) i go e = one-link l i p
 after-found (Blocked p) i go e = cc
 after-found (Unreached p) i go e = cc
 after-found (Stopped n p) i go e = cc
 
-after-stopped : (t : Tried) (i : ℕ) (go : ℕ → Tried) (n : ℕ) → handed t .ending ≡ E.Refused n → handed (after t i go) ≡ handed t
+after-stopped : (t : Tried) (i : ℕ) (go : ℕ → Tried) (n : ℕ) → handed t .ending ≡ E.Refused n → handed (afterChild t i go) ≡ handed t
 after-stopped (Found l p) i go n e = cc
 after-stopped (Blocked p) i go n e = cc
 after-stopped (Unreached p) i go n e = cc
 after-stopped (Stopped m p) i go n e = refl
 
-after-blocked : (t : Tried) (i : ℕ) (go : ℕ → Tried) → handed t .ending ≡ E.Blocked → after t i go ≡ go (handed t .pops)
+after-blocked : (t : Tried) (i : ℕ) (go : ℕ → Tried) → handed t .ending ≡ E.Blocked → afterChild t i go ≡ go (handed t .pops)
 after-blocked (Found l p) i go e = cc
 after-blocked (Blocked p) i go e = refl
 after-blocked (Unreached p) i go e = refl
 after-blocked (Stopped n p) i go e = cc
 
-after-unreached : (t : Tried) (i : ℕ) (go : ℕ → Tried) → handed t .ending ≡ E.Unreached → after t i go ≡ go (handed t .pops)
+after-unreached : (t : Tried) (i : ℕ) (go : ℕ → Tried) → handed t .ending ≡ E.Unreached → afterChild t i go ≡ go (handed t .pops)
 after-unreached (Found l p) i go e = cc
 after-unreached (Blocked p) i go e = refl
 after-unreached (Unreached p) i go e = refl
@@ -61,13 +61,13 @@ isBlocked E.Blocked = true
 isBlocked E.Unreached = false
 isBlocked (E.Refused n) = false
 
-rooted-ends : (t : Tried) (go : ℕ → Answer) → isBlocked (handed t .ending) ≡ false → answered (rooted t go) ≡ handed t
+rooted-ends : (t : Tried) (go : ℕ → Chained) → isBlocked (handed t .ending) ≡ false → answered (atRoot t go) ≡ handed t
 rooted-ends (Found l p) go e = refl
 rooted-ends (Blocked p) go e = absurd (true≢false e)
 rooted-ends (Unreached p) go e = refl
 rooted-ends (Stopped n p) go e = refl
 
-rooted-blocked : (t : Tried) (go : ℕ → Answer) → handed t .ending ≡ E.Blocked → rooted t go ≡ go (handed t .pops)
+rooted-blocked : (t : Tried) (go : ℕ → Chained) → handed t .ending ≡ E.Blocked → atRoot t go ≡ go (handed t .pops)
 rooted-blocked (Found l p) go e = cc
 rooted-blocked (Blocked p) go e = refl
 rooted-blocked (Unreached p) go e = cc
@@ -90,7 +90,7 @@ module _ (toParent : ℕ → Option ℕ → Trial) (fromStart : ℕ → Trial) (
   -- The next child is the one below k (RULES 13.12).
   pub at-child : (i k p : ℕ) → (k ≡ 0 → ⊥) →
       children i k p ≡
-      after (offer (reaches (k - 1) i) (hint (k - 1) (some i)) p) i (λ q. popped (leb budget q) (children i (k - 1)) q)
+      afterChild (offer (reaches (k - 1) i) (hint (k - 1) (some i)) p) i (λ q. popped (leb budget q) (children i (k - 1)) q)
   unfolding R.tryChildren R.tryHint
   at-child i zero p left = absurd (left refl)
   at-child i (suc k) p left = rw (sub-one (suc k))
@@ -109,14 +109,14 @@ module _ (toParent : ℕ → Option ℕ → Trial) (fromStart : ℕ → Trial) (
       abbrev child : Tried
       child = hint (k - 1) (some i) p
 
-      tried : children i k p ≡ after child i again
+      tried : children i k p ≡ afterChild child i again
       tried = at-child i k p left ∙ rw e
 
       ending : {x : Ending} → r .ending ≡ x → handed child .ending ≡ x
       ending f = ap (λ (t : D.Tried). t .ending) (sym h) ∙ f
 
       -- Its chain gets i as its next link (RULES 13.23).
-      pub child-found : r .ending ≡ E.Found → onto r i ≡ handed (children i k p)
+      pub child-found : r .ending ≡ E.Found → ontoChain r i ≡ handed (children i k p)
       child-found f = rw (h, tried) (sym (after-found child i again (ending f)))
 
       -- A refusal is handed on.
@@ -132,7 +132,7 @@ module _ (toParent : ℕ → Option ℕ → Trial) (fromStart : ℕ → Trial) (
 
   module _ (count : ℕ) where
     -- The roots from r on.
-    abbrev roots : ℕ → ℕ → Answer
+    abbrev roots : ℕ → ℕ → Chained
     roots r p = R.tryRoots toParent fromStart reaches budget (count - r) r p
 
     -- There is none above the last hint (RULES 13.18).
@@ -140,7 +140,7 @@ module _ (toParent : ℕ → Option ℕ → Trial) (fromStart : ℕ → Trial) (
     unfolding R.tryRoots
     at-end r p h = let none-left : count - r ≡ 0 = omega arith in rw none-left
 
-    at-root : (r p : ℕ) → r < count → roots r p ≡ rooted (hint r none p) (roots (r + 1))
+    at-root : (r p : ℕ) → r < count → roots r p ≡ atRoot (hint r none p) (roots (r + 1))
     unfolding R.tryRoots
     at-root r p h = let one-here : count - r ≡ suc (count - (r + 1)) = omega arith in rw one-here
 

@@ -11,7 +11,7 @@ use borrow.Author.Tests.{leb-false}
 use lib.Dec.{ltb, leb}
 use Rattle.chains.specs.declared.trial.Trial.{Trial}
 use Rattle.chains.specs.declared.trial.Trial.the-variants as T
-use Rattle.chains.specs.Answer.{Answer, NoWay, Refused}
+use Rattle.chains.specs.Answer.{Chained, NoWay, Refused}
 use Rattle.chains.specs.Stack as S
 use Rattle.chains.specs.Stack.{Element, State, Running, Done, withTested, last, started}
 
@@ -36,7 +36,7 @@ module _ (toParent : ℕ → Option ℕ → Trial) (fromStart : ℕ → Trial) (
   counted = S.counted toParent fromStart reaches count budget
 
   -- From this state the machine answers a, however many turns it is given beyond the pops that are left.
-  abbrev pub Ends : State → Answer → Type 0
+  abbrev pub Ends : State → Chained → Type 0
   Ends (Done b) a = b ≡ a
   Ends (Running s p) a = (n : ℕ) → budget - p < n → run n (Running s p) ≡ Done a
 
@@ -61,16 +61,16 @@ module _ (toParent : ℕ → Option ℕ → Trial) (fromStart : ℕ → Trial) (
   known-made true e s p = visit-made (e .tested) e s p
   known-made false e s p = refl
 
-  run-done : (n : ℕ) (a : Answer) → run n (Done a) ≡ Done a
+  run-done : (n : ℕ) (a : Chained) → run n (Done a) ≡ Done a
   unfolding S.run
   run-done zero a = refl
   run-done (suc n) a = refl
 
-  resumed : (n p : ℕ) (st : State) (a : Answer) → Made p st → budget - p < n → Ends st a → run n st ≡ Done a
+  resumed : (n p : ℕ) (st : State) (a : Chained) → Made p st → budget - p < n → Ends st a → run n st ≡ Done a
   resumed n p (Done b) a made left h = run-done n b ∙ ap Done h
   resumed n p (Running s q) a made left h = h n (omega arith)
 
-  counted-back : (n p : ℕ) (e : Element) (s : List Element) (a : Answer) → budget - p < suc n →
+  counted-back : (n p : ℕ) (e : Element) (s : List Element) (a : Chained) → budget - p < suc n →
       (b : Bool) → leb budget p ≡ b → Ends (counted b e s p) a → run n (counted b e s p) ≡ Done a
   counted-back n p e s a left true spent h = run-done n (Refused 11 p) ∙ ap Done h
   counted-back n p e s a left false spent h =
@@ -79,7 +79,7 @@ module _ (toParent : ℕ → Option ℕ → Trial) (fromStart : ℕ → Trial) (
       resumed n (p + 1) (known there e s (p + 1)) a (known-made there e s (p + 1)) (omega arith) h
 
   -- What is answered after a turn is answered before it.
-  pub step-back : (s : List Element) (p : ℕ) (a : Answer) →
+  pub step-back : (s : List Element) (p : ℕ) (a : Chained) →
       Ends (S.step toParent fromStart reaches count budget s p) a → Ends (Running s p) a
   unfolding S.step S.run
   step-back [] p a h zero left = absurd (omega arith)

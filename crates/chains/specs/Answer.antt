@@ -7,23 +7,23 @@ use mathlib.Core.Option.{Option, none, some}
 use lib.Dec.{eqb}
 
 -- A chain by the indices of its hints, the first to be waited at first; none; or a refusal. Each with the pops made.
-pub data Answer : Type 0 where
-  Way : List ℕ → ℕ → Answer
-  NoWay : ℕ → Answer
-  Refused : ℕ → ℕ → Answer
+pub data Chained : Type 0 where
+  Way : List ℕ → ℕ → Chained
+  NoWay : ℕ → Chained
+  Refused : ℕ → ℕ → Chained
 
 -- The index below, where there is one: the first child of a hint (RULES 13.12).
-abbrev pub below : ℕ → Option ℕ
-below zero = none
-below (suc k) = some k
+abbrev pub oneBelow : ℕ → Option ℕ
+oneBelow zero = none
+oneBelow (suc k) = some k
 
-abbrev pub popsOf : Answer → ℕ
+abbrev pub popsOf : Chained → ℕ
 popsOf (Way l p) = p
 popsOf (NoWay p) = p
 popsOf (Refused n p) = p
 
 -- One pop more than the budget would have been made (RULES 13.21).
-abbrev pub isSpent : Answer → Bool
+abbrev pub isSpent : Chained → Bool
 isSpent (Way l p) = false
 isSpent (NoWay p) = false
 isSpent (Refused n p) = eqb n 11

@@ -14,16 +14,16 @@ use Rattle.chains.specs.declared.tried.Ending.{Ending}
 use Rattle.chains.specs.declared.tried.Ending.the-variants as E
 use Rattle.chains.specs.declared.tried.Chain.{Chain}
 use Rattle.chains.specs.declared.tried.Tried.{Tried}
-use Rattle.chains.specs.Answer.{Answer, Way, NoWay, Refused}
+use Rattle.chains.specs.Answer.{Chained, Way, NoWay, Refused}
 use Rattle.chains.specs.Recursive as R
 
 abbrev pub parentOf : Parent → Option ℕ
 parentOf Goal = none
 parentOf (Hint j) = some j
 
-abbrev pub firstOf : First → Option ℕ
-firstOf Missing = none
-firstOf (Root r) = some r
+abbrev pub firstIndex : First → Option ℕ
+firstIndex Missing = none
+firstIndex (Root r) = some r
 
 -- The first m of a list, and zero after its end.
 unfoldable pub pad : ℕ → List ℕ → List ℕ
@@ -43,8 +43,8 @@ linksIn c = take (c .count) (c .all)
 abbrev pub plain : Ending → ℕ → Tried
 plain ending pops = record { ending = ending; pops = pops; chain = chainOf [] }
 
-abbrev pub onto : Tried → ℕ → Tried
-onto t i =
+abbrev pub ontoChain : Tried → ℕ → Tried
+ontoChain t i =
     cond (leb 64 (t .chain .count)) t
     (record {
       ending = t .ending;
@@ -59,7 +59,7 @@ handed (R.Unreached p) = plain E.Unreached p
 handed (R.Stopped n p) = plain (E.Refused n) p
 
 -- A whole search: no chain is an ending that does not reach.
-abbrev pub answered : Answer → Tried
+abbrev pub answered : Chained → Tried
 answered (Way l p) = handed (R.Found l p)
 answered (NoWay p) = plain E.Unreached p
 answered (Refused n p) = plain (E.Refused n) p

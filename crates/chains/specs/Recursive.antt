@@ -6,9 +6,10 @@ use mathlib.Core.Bool.{Bool, true, false}
 use mathlib.Core.List.{List, [], _∷_, _++_}
 use mathlib.Core.Option.{Option, none, some}
 use lib.Dec.{ltb, leb}
+use Rattle.refusals.specs.Names.{SPENT}
 use Rattle.chains.specs.declared.trial.Trial.{Trial}
 use Rattle.chains.specs.declared.trial.Trial.the-variants as T
-use Rattle.chains.specs.Answer.{Answer, Way, NoWay, Refused}
+use Rattle.chains.specs.Answer.{Chained, Way, NoWay, Refused}
 
 -- What trying a hint comes to, with the pops made: the hints from the one that the start reaches to the one tried; its way to its
 -- parent is not safe (RULES 13.11); that way is safe and no way to the hint is (RULES 13.17); or a refusal.
@@ -20,7 +21,7 @@ pub data Tried : Type 0 where
 
 -- One pop more, within the budget (RULES 13.21).
 abbrev pub popped : Bool → (ℕ → Tried) → ℕ → Tried
-popped true go p = Stopped 11 p
+popped true go p = Stopped SPENT p
 popped false go p = go (p + 1)
 
 -- By the test of the way to the parent (RULES 13.10, 13.11).
@@ -41,23 +42,23 @@ offer true go p = go p
 offer false go p = Unreached p
 
 -- Hint i after one of its children: a chain gets i as its next link, a failure goes on (RULES 13.15, 13.23).
-abbrev pub after : Tried → ℕ → (ℕ → Tried) → Tried
-after (Found l p) i go = Found (l ++ (i ∷ [])) p
-after (Blocked p) i go = go p
-after (Unreached p) i go = go p
-after (Stopped n p) i go = Stopped n p
+abbrev pub afterChild : Tried → ℕ → (ℕ → Tried) → Tried
+afterChild (Found l p) i go = Found (l ++ (i ∷ [])) p
+afterChild (Blocked p) i go = go p
+afterChild (Unreached p) i go = go p
+afterChild (Stopped n p) i go = Stopped n p
 
 -- A root: one that is blocked moves up, any other ends the search (RULES 13.17 to 13.19).
-abbrev pub rooted : Tried → (ℕ → Answer) → Answer
-rooted (Found l p) go = Way l p
-rooted (Blocked p) go = go p
-rooted (Unreached p) go = NoWay p
-rooted (Stopped n p) go = Refused n p
+abbrev pub atRoot : Tried → (ℕ → Chained) → Chained
+atRoot (Found l p) go = Way l p
+atRoot (Blocked p) go = go p
+atRoot (Unreached p) go = NoWay p
+atRoot (Stopped n p) go = Refused n p
 
 -- A first root that no hint has is popped and dropped.
-abbrev pub pastEnd : Bool → Answer
-pastEnd true = Refused 11 0
-pastEnd false = NoWay 1
+abbrev pub pastLastRoot : Bool → Chained
+pastLastRoot true = Refused SPENT 0
+pastLastRoot false = NoWay 1
 
 -- The tests are those of Stack.
 module _ (toParent : ℕ → Option ℕ → Trial) (fromStart : ℕ → Trial) (reaches : ℕ → ℕ → Bool) (budget : ℕ) where
@@ -69,27 +70,27 @@ module _ (toParent : ℕ → Option ℕ → Trial) (fromStart : ℕ → Trial) (
   unfoldable pub tryChildren : ℕ → ℕ → ℕ → Tried
   tryChildren i zero p = startedBy (fromStart i) i p
   tryChildren i (suc k) p =
-      after (offer (reaches k i) (hintBy (tryChildren k k) k (some i)) p) i
+      afterChild (offer (reaches k i) (hintBy (tryChildren k k) k (some i)) p) i
       (λ q. popped (leb budget q) (tryChildren i k) q)
 
   unfoldable pub tryHint : ℕ → Option ℕ → ℕ → Tried
   tryHint i parent p = hintBy (tryChildren i i) i parent p
 
   -- The roots from r on, n of them (RULES 13.18).
-  unfoldable pub tryRoots : ℕ → ℕ → ℕ → Answer
+  unfoldable pub tryRoots : ℕ → ℕ → ℕ → Chained
   tryRoots zero r p = NoWay p
-  tryRoots (suc n) r p = rooted (tryHint r none p) (tryRoots n (r + 1))
+  tryRoots (suc n) r p = atRoot (tryHint r none p) (tryRoots n (r + 1))
 
 module _ (toParent : ℕ → Option ℕ → Trial) (fromStart : ℕ → Trial) (reaches : ℕ → ℕ → Bool) (count budget : ℕ) where
-  abbrev pub fromRoot : Bool → ℕ → Answer
+  abbrev pub fromRoot : Bool → ℕ → Chained
   fromRoot true r = tryRoots toParent fromStart reaches budget (count - r) r 0
-  fromRoot false r = pastEnd (leb budget 0)
+  fromRoot false r = pastLastRoot (leb budget 0)
 
-  abbrev pub fromFirst : Option ℕ → Answer
+  abbrev pub fromFirst : Option ℕ → Chained
   fromFirst none = NoWay 0
   fromFirst (some r) = fromRoot (ltb r count) r
 
   -- The whole search from its first root; `stack-is-recursion` of proofs/Agree says that it is the stack's.
-  unfoldable pub recursiveSearch : Option ℕ → Answer
+  unfoldable pub recursiveSearch : Option ℕ → Chained
   unfolding tryChildren tryHint tryRoots
   recursiveSearch r = fromFirst r

@@ -5,9 +5,10 @@ use mathlib.Core.Bool.{Bool, true, false}
 use mathlib.Core.List.{List, [], _∷_}
 use mathlib.Core.Option.{Option, none, some}
 use lib.Dec.{ltb, leb}
+use Rattle.refusals.specs.Names.{SPENT}
 use Rattle.chains.specs.declared.trial.Trial.{Trial}
 use Rattle.chains.specs.declared.trial.Trial.the-variants as T
-use Rattle.chains.specs.Answer.{Answer, Way, NoWay, Refused, below}
+use Rattle.chains.specs.Answer.{Chained, Way, NoWay, Refused, oneBelow}
 
 -- `ArrivalPathSearchElement`, with its `new`, `tested` and `decrement_child`.
 pub record Element : Type 0 where
@@ -16,14 +17,14 @@ pub record Element : Type 0 where
   pub tested : Bool
 
 abbrev pub new : ℕ → Element
-new i = record { index = i; child = below i; tested = false }
+new i = record { index = i; child = oneBelow i; tested = false }
 
 abbrev pub withTested : Element → Element
 withTested e = record { index = e .index; child = e .child; tested = true }
 
 abbrev pub lessChild : Option ℕ → Option ℕ
 lessChild none = none
-lessChild (some c) = below c
+lessChild (some c) = oneBelow c
 
 abbrev pub decrement : Element → Element
 decrement e = record { index = e .index; child = lessChild (e .child); tested = e .tested }
@@ -40,7 +41,7 @@ indices (e ∷ s) = e .index ∷ indices s
 -- Between two turns of the loop: the stack and the pops made, or the answer.
 pub data State : Type 0 where
   Running : List Element → ℕ → State
-  Done : Answer → State
+  Done : Chained → State
 
 abbrev pub higher : Bool → ℕ → List Element
 higher true i = new i ∷ []
@@ -61,9 +62,9 @@ started (T.Refused n) e s p = Done (Refused n p)
 -- passes (RULES 13.16); whether a child's reach is at most its parent's (RULES 13.13). There are `count` hints.
 module _ (toParent : ℕ → Option ℕ → Trial) (fromStart : ℕ → Trial) (reaches : ℕ → ℕ → Bool) (count budget : ℕ) where
   -- A root that is blocked moves up by one, where there is one more (RULES 13.18).
-  abbrev pub climb : ℕ → List Element → List Element
-  climb i [] = higher (ltb (i + 1) count) (i + 1)
-  climb i (e ∷ s) = e ∷ s
+  abbrev pub rootAbove : ℕ → List Element → List Element
+  rootAbove i [] = higher (ltb (i + 1) count) (i + 1)
+  rootAbove i (e ∷ s) = e ∷ s
 
   -- A tested element, by its child (RULES 13.12).
   abbrev pub into : Option ℕ → Element → List Element → ℕ → State
@@ -73,7 +74,7 @@ module _ (toParent : ℕ → Option ℕ → Trial) (fromStart : ℕ → Trial) (
   -- By the test of the way to the parent (RULES 13.11).
   abbrev pub arrived : Trial → Element → List Element → ℕ → State
   arrived T.Passed e s p = into (e .child) (withTested e) s p
-  arrived T.Failed e s p = Running (climb (e .index) s) p
+  arrived T.Failed e s p = Running (rootAbove (e .index) s) p
   arrived (T.Refused n) e s p = Done (Refused n p)
 
   -- Its way is tested on the first pop alone (RULES 13.15).
@@ -88,7 +89,7 @@ module _ (toParent : ℕ → Option ℕ → Trial) (fromStart : ℕ → Trial) (
 
   -- A pop is counted, within the budget (RULES 13.21).
   abbrev pub counted : Bool → Element → List Element → ℕ → State
-  counted true e s p = Done (Refused 11 p)
+  counted true e s p = Done (Refused SPENT p)
   counted false e s p = known (ltb (e .index) count) e s (p + 1)
 
   -- One turn of the loop. The pop of an empty stack is none (RULES 13.20).

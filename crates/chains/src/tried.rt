@@ -1,7 +1,7 @@
 // What trying a hint comes to, with the pops made so far (docs/RULES.md, 13.10 to 13.21).
 ghost use mathlib.Core.Path.{_≡_};
 ghost use lib.ListN.{length};
-ghost use Rattle.chains.specs.Handed.{linksIn, plain, onto};
+ghost use Rattle.chains.specs.Handed.{linksIn, plain, ontoChain};
 
 // A chain was found; the hint's way to its parent is not safe; that way is safe, and no way to the hint is; or a refusal.
 pub enum Ending {
@@ -53,7 +53,7 @@ impl Tried {
 
     // The same with one hint more behind the others, where there is room.
     pub fn with_link(self, i: usize) -> Tried
-        ensures { λ r. ⌜ r ≡ onto self i ⌝ }
+        ensures { λ r. ⌜ r ≡ ontoChain self i ⌝ }
     {
         let before = self.chain;
         let n = before.count;

@@ -4,11 +4,11 @@ use mathlib.Core.Bool.{cond}
 use lib.Signed.{ltZ}
 use lib.Ieee
 use lib.Ieee.{Float, binary64}
-use Rattle.floats.specs.Size.{nought}
+use Rattle.floats.specs.Constants.{nought}
 use Rattle.numbers.specs.Time.{spanBetween, secondsOf}
 use Rattle.numbers.specs.declared.time.Span.{Span}
 use Rattle.numbers.specs.declared.time.Span.the-variants as S
-use Rattle.shapes.specs.Vector.{sum, difference, scaled}
+use Rattle.shapes.specs.Vector.{vectorSum, vectorDifference, scaled}
 use Rattle.shapes.specs.declared.vector.Vector.{Vector}
 use Rattle.courses.specs.declared.course.Course.{Course}
 use Rattle.courses.specs.declared.course.Run.{Run}
@@ -24,12 +24,12 @@ unfoldable pub firstSeen : Course → Run → Sight
 firstSeen agent leg =
     cond (ltZ (leg .start .0) (agent .run .start .0))
     (by (spanBetween (leg .start) (agent .run .start)))
-    (G.At (difference (leg .from) (agent .run .from)) (secondsOf (leg .start .0)))
+    (G.At (vectorDifference (leg .from) (agent .run .from)) (secondsOf (leg .start .0)))
   where
     by : Span → Sight
     by (S.Of d) =
-        let moved = sum (leg .from) (scaled (leg .velocity) (secondsOf (d .0))) in
-        G.At (difference moved (agent .run .from)) (secondsOf (agent .run .start .0))
+        let moved = vectorSum (leg .from) (scaled (leg .velocity) (secondsOf (d .0))) in
+        G.At (vectorDifference moved (agent .run .from)) (secondsOf (agent .run .start .0))
     by S.Strayed = G.Strayed
 
 -- The numbers that stay the same from round to round (RULES 10.18, 10.22).
@@ -56,7 +56,7 @@ openingOf agent follow aligned ahead t =
     let reached = Ieee.mul binary64 (agent .speed) (Ieee.sub binary64 t (secondsOf (agent .run .start .0))) in
     let wait = Ieee.div binary64 (Ieee.sub binary64 ahead follow) (agent .speed) in
     let s = Ieee.mul binary64 (agent .speed) wait in
-    let along : Float → Vector = λ m. sum (agent .run .from) (scaled (agent .direction) m) in
+    let along : Float → Vector = λ m. vectorSum (agent .run .from) (scaled (agent .direction) m) in
     cond (Ieee.le ahead follow)
     (Waits (agent .run .from) nought (letAway follow aligned ahead t))
     (cond (Ieee.le (Ieee.sub binary64 ahead reached) follow)

@@ -18,17 +18,17 @@ use lib.Signed.{ltZ, _≤ℤ_, _<ℤ_, ltZ-yes, ltZ-no, ≤ℤ-refl, <ℤ-≤ℤ
 use Rattle.floats.proofs.Tests.{passed, failed}
 use Rattle.numbers.specs.declared.time.Duration.{Duration}
 use Rattle.numbers.proofs.Integers.{at-most-trans, below-or-at-most}
-use Rattle.numbers.proofs.Reach.{both}
-use Rattle.ranking.specs.Ranked.{before, sorted}
-use Rattle.ranking.specs.Hints.{blank}
+use Rattle.numbers.proofs.Exact.{both}
+use Rattle.ranking.specs.Ranked.{goesBefore, sorted}
+use Rattle.ranking.specs.Hints.{blankRanked}
 use Rattle.ranking.specs.declared.order.RankedHint.{RankedHint}
 use Rattle.chains.specs.declared.trial.First.the-variants.{Missing, Root}
-use Rattle.choosing.specs.Roots.{below, level, firstRoot}
+use Rattle.choosing.specs.Roots.{countBelow, countLevel, firstRoot}
 use Rattle.choosing.proofs.Counts.{level-in, no-root, root-found}
 
 -- The contour of hint i.
 abbrev pub contourAt : List RankedHint → ℕ → ℤ
-contourAt l i = getD l i blank .contour .0
+contourAt l i = getD l i blankRanked .contour .0
 
 -- No contour is below one in front of it.
 abbrev pub Rises : List RankedHint → Type 0
@@ -50,12 +50,12 @@ AllBelow goal l = (j : ℕ) → j < length l → contourAt l j <ℤ goal .0
 module _ (x y : RankedHint) (l : List RankedHint) (ranked : sorted (x ∷ (y ∷ l)) ≡ true) where
   next-sorted : sorted (y ∷ l) ≡ true
   unfolding sorted
-  next-sorted = both (not (before y x)) (sorted (y ∷ l)) ranked .1
+  next-sorted = both (not (goesBefore y x)) (sorted (y ∷ l)) ranked .1
 
   next-rises : x .contour .0 ≤ℤ y .contour .0
-  unfolding sorted before
+  unfolding sorted goesBefore
   next-rises =
-      let behind : before y x ≡ false = not-true (before y x) (both (not (before y x)) (sorted (y ∷ l)) ranked .0) in
+      let behind : goesBefore y x ≡ false = not-true (goesBefore y x) (both (not (goesBefore y x)) (sorted (y ∷ l)) ranked .0) in
       ltZ-no (failed (by (ltZ (y .contour .0) (x .contour .0)) _ behind))
     where
       by : (t rest : Bool) → cond t true rest ≡ false → t ≡ false
@@ -86,25 +86,25 @@ module _ (test : RankedHint → Bool) where
   front [] = 0
   front (h ∷ hs) = cond (test h) (front hs + 1) 0
 
-  front-passes : (l : List RankedHint) (j : ℕ) → j < front l → test (getD l j blank) ≡ true
+  front-passes : (l : List RankedHint) (j : ℕ) → j < front l → test (getD l j blankRanked) ≡ true
   unfolding front
   front-passes [] j b = absurd (not-suc-le-zero b)
   front-passes (h ∷ hs) j b = by (test h) refl j b (front-passes hs)
     where
       by : (t : Bool) → test h ≡ t → (j : ℕ) → j < cond t (front hs + 1) 0 →
-          ((k : ℕ) → k < front hs → test (getD hs k blank) ≡ true) → test (getD (h ∷ hs) j blank) ≡ true
+          ((k : ℕ) → k < front hs → test (getD hs k blankRanked) ≡ true) → test (getD (h ∷ hs) j blankRanked) ≡ true
       by true e zero b rest = e
       by true e (suc k) b rest = rest k (omega arith)
       by false e j b rest = absurd (not-suc-le-zero b)
 
-  front-fails : (l : List RankedHint) → front l < length l → test (getD l (front l) blank) ≡ false
+  front-fails : (l : List RankedHint) → front l < length l → test (getD l (front l) blankRanked) ≡ false
   unfolding front
   front-fails [] b = absurd (not-suc-le-zero b)
   front-fails (h ∷ hs) b = by (test h) refl b (front-fails hs)
     where
       by : (t : Bool) → test h ≡ t → cond t (front hs + 1) 0 < length (h ∷ hs) →
-          (front hs < length hs → test (getD hs (front hs) blank) ≡ false) →
-          test (getD (h ∷ hs) (cond t (front hs + 1) 0) blank) ≡ false
+          (front hs < length hs → test (getD hs (front hs) blankRanked) ≡ false) →
+          test (getD (h ∷ hs) (cond t (front hs + 1) 0) blankRanked) ≡ false
       by true e b rest = rw (add-one (front hs)) (rest (omega arith))
       by false e b rest = e
 
@@ -112,16 +112,16 @@ module _ (test : RankedHint → Bool) where
 abbrev isBelow : Duration → RankedHint → Bool
 isBelow c h = ltZ (h .contour .0) (c .0)
 
-below-front : (c : Duration) (l : List RankedHint) → below c l ≡ front (isBelow c) l
-unfolding below front
+below-front : (c : Duration) (l : List RankedHint) → countBelow c l ≡ front (isBelow c) l
+unfolding countBelow front
 below-front c [] = refl
 below-front c (h ∷ hs) = rw (below-front c hs)
 
 module _ (c : Duration) (l : List RankedHint) where
-  below-passes : (j : ℕ) → j < below c l → contourAt l j <ℤ c .0
+  below-passes : (j : ℕ) → j < countBelow c l → contourAt l j <ℤ c .0
   below-passes j b = ltZ-yes (passed (front-passes (isBelow c) l j (rw (below-front c l) at b)))
 
-  below-fails : below c l < length l → c .0 ≤ℤ contourAt l (below c l)
+  below-fails : countBelow c l < length l → c .0 ≤ℤ contourAt l (countBelow c l)
   below-fails b =
       rw (below-front c l) (ltZ-no (failed (front-fails (isBelow c) l (rw (below-front c l) at b))))
 
@@ -129,22 +129,22 @@ module _ (c : Duration) (l : List RankedHint) where
 abbrev notAbove : Duration → RankedHint → Bool
 notAbove c h = not (ltZ (c .0) (h .contour .0))
 
-level-front : (c : Duration) (l : List RankedHint) → level c l ≡ front (notAbove c) l
-unfolding level front
+level-front : (c : Duration) (l : List RankedHint) → countLevel c l ≡ front (notAbove c) l
+unfolding countLevel front
 level-front c [] = refl
 level-front c (h ∷ hs) = by (ltZ (c .0) (h .contour .0)) (level-front c hs)
   where
-    by : (t : Bool) → level c hs ≡ front (notAbove c) hs →
-        cond t 0 (level c hs + 1) ≡ cond (not t) (front (notAbove c) hs + 1) 0
+    by : (t : Bool) → countLevel c hs ≡ front (notAbove c) hs →
+        cond t 0 (countLevel c hs + 1) ≡ cond (not t) (front (notAbove c) hs + 1) 0
     by true e = refl
     by false e = ap (λ n. n + 1) e
 
 module _ (c : Duration) (l : List RankedHint) where
-  level-passes : (j : ℕ) → j < level c l → contourAt l j ≤ℤ c .0
+  level-passes : (j : ℕ) → j < countLevel c l → contourAt l j ≤ℤ c .0
   level-passes j b =
       ltZ-no (failed (not-true (ltZ (c .0) (contourAt l j)) (front-passes (notAbove c) l j (rw (level-front c l) at b))))
 
-  level-fails : level c l < length l → c .0 <ℤ contourAt l (level c l)
+  level-fails : countLevel c l < length l → c .0 <ℤ contourAt l (countLevel c l)
   level-fails b =
       let above = ltZ (c .0) (contourAt l (front (notAbove c) l)) in
       rw (level-front c l) (ltZ-yes (passed (not-false above (front-fails (notAbove c) l (rw (level-front c l) at b)))))
@@ -160,16 +160,16 @@ same-root e = cc
 module _ (goal : Duration) (l : List RankedHint) where
   -- The first that is not below the goal's, its contour, the hints behind it, and the last of them that is level with it.
   abbrev at : ℕ
-  at = below goal l
+  at = countBelow goal l
 
   abbrev contour : Duration
-  contour = getD l at blank .contour
+  contour = getD l at blankRanked .contour
 
   abbrev behind : List RankedHint
   behind = drop (at + 1) l
 
   abbrev root : ℕ
-  root = at + level contour behind
+  root = at + countLevel contour behind
 
   some-or-none : (at < length l) ⊎ (length l ≤ at)
   some-or-none = by (ltb at (length l)) refl
@@ -182,15 +182,15 @@ module _ (goal : Duration) (l : List RankedHint) where
   none-found = no-root goal l at refl
 
   found : at < length l → Root root ≡ firstRoot goal l
-  found some = root-found goal l at refl (getD l at blank) (rw (add-one at) (drop-cons l at blank some))
+  found some = root-found goal l at refl (getD l at blankRanked) (rw (add-one at) (drop-cons l at blankRanked some))
 
   behind-at : (k : ℕ) → contourAt behind k ≡ contourAt l (at + 1 + k)
-  behind-at k = ap (λ (h : RankedHint). h .contour .0) (getD-drop (at + 1) l k blank)
+  behind-at k = ap (λ (h : RankedHint). h .contour .0) (getD-drop (at + 1) l k blankRanked)
 
   not-above : contourAt l root ≤ℤ contour .0
-  not-above = by (level contour behind) refl
+  not-above = by (countLevel contour behind) refl
     where
-      by : (n : ℕ) → level contour behind ≡ n → contourAt l (at + n) ≤ℤ contour .0
+      by : (n : ℕ) → countLevel contour behind ≡ n → contourAt l (at + n) ≤ℤ contour .0
       by zero e = rw (add-zero at) (≤ℤ-refl (contour .0))
       by (suc m) e =
           let same : at + 1 + m ≡ at + suc m = omega arith in
@@ -215,9 +215,9 @@ module _ (goal : Duration) (l : List RankedHint) where
 
       late : (j : ℕ) → root < j → j < length l → contourAt l root <ℤ contourAt l j
       late j g h =
-          let next : ℕ = at + 1 + level contour behind in
+          let next : ℕ = at + 1 + countLevel contour behind in
           let above : contour .0 <ℤ contourAt l next =
-          subst (λ (z : ℤ). contour .0 <ℤ z) (behind-at (level contour behind))
+          subst (λ (z : ℤ). contour .0 <ℤ z) (behind-at (countLevel contour behind))
           (level-fails contour behind (omega (arith, length-drop (at + 1) l))) in
           let far : contour .0 <ℤ contourAt l j = <ℤ-≤ℤ-trans above (rises next j (omega arith) h) in
           elim (below-or-at-most (contourAt l root) (contourAt l j)) [
@@ -261,6 +261,6 @@ all-below goal l e j h =
 pub all-below-only : (goal : Duration) (l : List RankedHint) → AllBelow goal l → firstRoot goal l ≡ Missing
 all-below-only goal l all =
     elim (some-or-none goal l) [
-      | inl some ↦ clashℤ (all (below goal l) some) (below-fails goal l some)
+      | inl some ↦ clashℤ (all (countBelow goal l) some) (below-fails goal l some)
       | inr none ↦ sym (none-found goal l none)
     ]

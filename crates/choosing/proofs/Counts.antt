@@ -10,23 +10,23 @@ use lib.ListN.{length, take, drop, getD, length-take, drop-of-length-le}
 use lib.Seq.{drop-cons, getD-take}
 use lib.Signed.{ltZ}
 use Rattle.numbers.specs.declared.time.Duration.{Duration}
-use Rattle.ranking.specs.Hints.{held}
+use Rattle.ranking.specs.Hints.{rankedHeld}
 use Rattle.ranking.specs.declared.order.RankedHint.{RankedHint}
 use Rattle.ranking.specs.declared.ranked_hints.RankedHints.{RankedHints}
 use Rattle.chains.specs.declared.trial.First.the-variants.{Missing, Root}
-use Rattle.choosing.specs.Roots.{below, level, firstRoot}
+use Rattle.choosing.specs.Roots.{countBelow, countLevel, firstRoot}
 
 -- ---- The hints that a list holds.
 
 -- In an array of 64 places they are at most 64.
-pub held-in : (list : RankedHints) → length (list .all) ≡ 64 → length (held list) ≤ 64
-unfolding held
+pub held-in : (list : RankedHints) → length (list .all) ≡ 64 → length (rankedHeld list) ≤ 64
+unfolding rankedHeld
 held-in list long = omega (arith, length-take (list .count) (list .all))
 
 -- From place i on: what stands there, and the others.
-pub held-from : (list : RankedHints) (i : ℕ) (d : RankedHint) → i < length (held list) →
-    drop i (held list) ≡ getD (list .all) i d ∷ drop (i + 1) (held list)
-unfolding held
+pub held-from : (list : RankedHints) (i : ℕ) (d : RankedHint) → i < length (rankedHeld list) →
+    drop i (rankedHeld list) ≡ getD (list .all) i d ∷ drop (i + 1) (rankedHeld list)
+unfolding rankedHeld
 held-from list i d h =
     let counted : i < list .count = omega (arith, length-take (list .count) (list .all)) in
     rw (add-one i, drop-cons (take (list .count) (list .all)) i d h, getD-take (list .count) (list .all) i d counted)
@@ -34,48 +34,48 @@ held-from list i d h =
 -- ---- The counts: here is the first that counts no more, or one more counts, or there is none left.
 
 module _ (c : Duration) (l : List RankedHint) (i : ℕ) where
-  pub below-end : length l ≤ i → below c (drop i l) ≡ 0
-  unfolding below
+  pub below-end : length l ≤ i → countBelow c (drop i l) ≡ 0
+  unfolding countBelow
   below-end h = rw (drop-of-length-le l {i = i} h)
 
-  pub level-end : length l ≤ i → level c (drop i l) ≡ 0
-  unfolding level
+  pub level-end : length l ≤ i → countLevel c (drop i l) ≡ 0
+  unfolding countLevel
   level-end h = rw (drop-of-length-le l {i = i} h)
 
   module _ (x : RankedHint) (here : drop i l ≡ x ∷ drop (i + 1) l) where
-    pub below-here : ltZ (x .contour .0) (c .0) ≡ false → below c (drop i l) ≡ 0
-    unfolding below
+    pub below-here : ltZ (x .contour .0) (c .0) ≡ false → countBelow c (drop i l) ≡ 0
+    unfolding countBelow
     below-here e = rw (here, e)
 
-    pub below-next : ltZ (x .contour .0) (c .0) ≡ true → below c (drop i l) ≡ below c (drop (i + 1) l) + 1
-    unfolding below
+    pub below-next : ltZ (x .contour .0) (c .0) ≡ true → countBelow c (drop i l) ≡ countBelow c (drop (i + 1) l) + 1
+    unfolding countBelow
     below-next e = rw (here, e)
 
-    pub level-here : ltZ (c .0) (x .contour .0) ≡ true → level c (drop i l) ≡ 0
-    unfolding level
+    pub level-here : ltZ (c .0) (x .contour .0) ≡ true → countLevel c (drop i l) ≡ 0
+    unfolding countLevel
     level-here e = rw (here, e)
 
-    pub level-next : ltZ (c .0) (x .contour .0) ≡ false → level c (drop i l) ≡ level c (drop (i + 1) l) + 1
-    unfolding level
+    pub level-next : ltZ (c .0) (x .contour .0) ≡ false → countLevel c (drop i l) ≡ countLevel c (drop (i + 1) l) + 1
+    unfolding countLevel
     level-next e = rw (here, e)
 
-pub level-in : (c : Duration) (l : List RankedHint) → level c l ≤ length l
-unfolding level
+pub level-in : (c : Duration) (l : List RankedHint) → countLevel c l ≤ length l
+unfolding countLevel
 level-in c [] = omega arith
 level-in c (h ∷ hs) = by (ltZ (c .0) (h .contour .0)) (level-in c hs)
   where
-    by : (t : Bool) → level c hs ≤ length hs → cond t 0 (level c hs + 1) ≤ length (h ∷ hs)
+    by : (t : Bool) → countLevel c hs ≤ length hs → cond t 0 (countLevel c hs + 1) ≤ length (h ∷ hs)
     by true e = omega arith
     by false e = omega arith
 
 -- ---- The root: none where all are below the goal's contour, else the last that is level with the first that is not.
 
-module _ (goal : Duration) (l : List RankedHint) (at : ℕ) (counted : at ≡ below goal l) where
+module _ (goal : Duration) (l : List RankedHint) (at : ℕ) (counted : at ≡ countBelow goal l) where
   pub no-root : length l ≤ at → Missing ≡ firstRoot goal l
   unfolding firstRoot
   no-root h = rw (← counted, drop-of-length-le l {i = at} h)
 
   pub root-found : (x : RankedHint) → drop at l ≡ x ∷ drop (at + 1) l →
-      Root (at + level (x .contour) (drop (at + 1) l)) ≡ firstRoot goal l
+      Root (at + countLevel (x .contour) (drop (at + 1) l)) ≡ firstRoot goal l
   unfolding firstRoot
   root-found x here = rw (← counted, here)

@@ -10,8 +10,8 @@ use ways::trip::Trip;
 ghost use mathlib.Core.Path.{_≡_};
 ghost use Prim.Native.Nat.{_+_, _≤_, _<_};
 ghost use lib.ListN.{length, drop};
-ghost use Rattle.ranking.specs.Hints.{held};
-ghost use Rattle.choosing.specs.Roots.{goalContour, lateness, below, level, firstRoot};
+ghost use Rattle.ranking.specs.Hints.{rankedHeld};
+ghost use Rattle.choosing.specs.Roots.{goalContour, lateness, countBelow, countLevel, firstRoot};
 
 // A contour, or a refusal and its number.
 pub enum Contour {
@@ -38,22 +38,22 @@ pub fn goal_contour(trip: Trip, arrival: TimePoint) -> Contour
     let goal = leg.end;
     let long = norm::norm(goal.place().minus(start.place()));
     let Root::Of(reach) = long else {
-        return Contour::Refused(1);
+        return Contour::Refused(refusals::NUMBER);
     };
     let waiting = arrival.since(start.time);
     let Span::Of(wait) = waiting else {
-        return Contour::Refused(7);
+        return Contour::Refused(refusals::STRAYED);
     };
     let late = lateness_of(trip.speed, wait, reach);
     let Span::Of(contour) = late else {
-        return Contour::Refused(7);
+        return Contour::Refused(refusals::STRAYED);
     };
     Contour::Of(contour)
 }
 
 // How many hints stand in front of the first whose contour is not below this one.
 fn count_below(hints: RankedHints, contour: Duration) -> usize
-    ensures { λ r. ⌜ r ≡ below contour (held hints) ⌝ }
+    ensures { λ r. ⌜ r ≡ countBelow contour (rankedHeld hints) ⌝ }
 {
     let n = hints.len();
     let mut i = 0;
@@ -69,8 +69,8 @@ fn count_below(hints: RankedHints, contour: Duration) -> usize
 
 // How many of the hints from `from` on have a contour that is not above this one, before the first that has.
 fn count_level(hints: RankedHints, contour: Duration, from: usize) -> usize
-    requires { ⌜ from ≤ length (held hints) ⌝ }
-    ensures { λ r. ⌜ r ≡ level contour (drop from (held hints)) ⌝ }
+    requires { ⌜ from ≤ length (rankedHeld hints) ⌝ }
+    ensures { λ r. ⌜ r ≡ countLevel contour (drop from (rankedHeld hints)) ⌝ }
 {
     let n = hints.len();
     let mut i = from;
@@ -86,7 +86,7 @@ fn count_level(hints: RankedHints, contour: Duration, from: usize) -> usize
 
 // The last hint of the first contour that is not below the goal's.
 pub fn first_root(hints: RankedHints, goal: Duration) -> First
-    ensures { λ r. ⌜ r ≡ firstRoot goal (held hints) ⌝ }
+    ensures { λ r. ⌜ r ≡ firstRoot goal (rankedHeld hints) ⌝ }
 {
     let n = hints.len();
     let at = count_below(hints, goal);

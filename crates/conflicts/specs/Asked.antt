@@ -2,6 +2,7 @@
 -- Assumes nothing.
 use mathlib.Core.Bool.{cond, _&&_}
 use lib.Ieee.{Float}
+use Rattle.refusals.specs.Names.{NUMBER, SHAPE}
 use Rattle.shapes.specs.Leg.{isRising}
 use Rattle.shapes.specs.Box.{boxOfLeg}
 use Rattle.limits.specs.Domain.{isProfile}
@@ -18,8 +19,8 @@ use Rattle.conflicts.specs.declared.conflict.Verdict.the-variants as W
 unfoldable pub cartsExamined : CircularProfile → CircularProfile → Float → Leg → Leg → Examined
 cartsExamined p q limit agent obstacle =
     cond (isRising obstacle)
-    (cond (isProfile p && isProfile q) (legsExamined limit agent obstacle) (X.Refused 1))
-    (X.Refused 2)
+    (cond (isProfile p && isProfile q) (legsExamined limit agent obstacle) (X.Refused NUMBER))
+    (X.Refused SHAPE)
 
 -- Whether the agent's leg and an obstacle's are in conflict, each in the box of its own footprint (RULES 9.1).
 unfoldable pub askedConflict : CircularProfile → Leg → CircularProfile → Leg → Float → Verdict

@@ -3,53 +3,37 @@
 use mathlib.Core.Bool.{Bool, cond, _&&_}
 use mathlib.Core.List.{[], _∷_}
 use lib.Ieee
-use lib.Ieee.{Float, binary64, ofBits}
+use lib.Ieee.{Float, binary64}
+use Rattle.floats.specs.Constants.{millionth}
+use Rattle.refusals.specs.Names.{STRAYED}
 use Rattle.lists.specs.Outcome.{Outcome, Gives, Refuses}
 use Rattle.floats.specs.Quadratic.{two}
-use Rattle.numbers.specs.Time.{spanBetween, secondsOf}
+use Rattle.numbers.specs.Time.{spanBetween, secondsOf, withSpan}
 use Rattle.numbers.specs.declared.time.TimePoint.{TimePoint}
-use Rattle.numbers.specs.declared.time.Duration.{Duration}
-use Rattle.numbers.specs.declared.time.Span.{Span}
-use Rattle.numbers.specs.declared.time.Span.the-variants as S
 use Rattle.shapes.specs.Leg.{isInside}
 use Rattle.shapes.specs.Box.{overlap}
 use Rattle.shapes.specs.declared.bounding_box.BoundingBox.{BoundingBox}
 use Rattle.shapes.specs.declared.waypoint.Leg.{Leg}
-use Rattle.motions.specs.Quadratic.{meetingFrom}
+use Rattle.motions.specs.Quadratic.{meetingFrom, withMeeting}
 use Rattle.proximity.specs.Range.{rangeStart}
 use Rattle.proximity.specs.Proximity.{proximityOf}
 use Rattle.motions.specs.declared.quadratic.Quadratic.{Quadratic}
-use Rattle.motions.specs.declared.quadratic.Meeting.{Meeting}
-use Rattle.motions.specs.declared.quadratic.Meeting.the-variants as M
 use Rattle.proximity.specs.declared.detect.Proximity.{Proximity}
 use Rattle.proximity.specs.declared.detect.Proximity.the-variants as P
 use Rattle.conflicts.specs.declared.conflict.Verdict.{Verdict}
 use Rattle.conflicts.specs.declared.conflict.Verdict.the-variants.{Clear, Conflict, Refused}
 
--- 1e-6.
-abbrev pub slightest : Float
-slightest = ofBits binary64 0x3eb0_c6f7_a0b5_ed8d
-
 -- The derivative 2 a t + b is below -1e-6 (RULES 9.5, 9.6).
 abbrev pub isClosing : Quadratic → Float → Bool
 isClosing q t =
-    Ieee.lt (Ieee.add binary64 (Ieee.mul binary64 (Ieee.mul binary64 two (q .a)) t) (q .b)) (Ieee.neg slightest)
-
--- Goes on with a span or a quadratic.
-abbrev pub spanning : Span → (Duration → Verdict) → Verdict
-spanning (S.Of d) go = go d
-spanning S.Strayed go = Refused 7
-
-abbrev pub meeting : Meeting → (Quadratic → Verdict) → Verdict
-meeting (M.Of q) go = go q
-meeting (M.Refused n) go = Refused n
+    Ieee.lt (Ieee.add binary64 (Ieee.mul binary64 (Ieee.mul binary64 two (q .a)) t) (q .b)) (Ieee.neg millionth)
 
 -- At the entry t the legs still close in (RULES 9.5).
 unfoldable pub closingAt : Float → Leg → Leg → TimePoint → Verdict
 closingAt limit agent obstacle t =
     let t0 = rangeStart agent obstacle in
-    spanning (spanBetween t0 t) (λ d.
-    meeting (meetingFrom limit agent obstacle t0) (λ q. cond (isClosing q (secondsOf (d .0))) Conflict Clear))
+    withSpan (Refused STRAYED) (spanBetween t0 t) (λ d.
+    withMeeting Refused (meetingFrom limit agent obstacle t0) (λ q. cond (isClosing q (secondsOf (d .0))) Conflict Clear))
 
 -- An entry counts only strictly inside both legs (RULES 9.4).
 unfoldable pub enteredAt : Float → Leg → Leg → TimePoint → Verdict

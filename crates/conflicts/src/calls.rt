@@ -21,13 +21,13 @@ fn examine_carts(
     ensures { λ r. ⌜ r ≡ cartsExamined p q limit agent obstacle ⌝ }
 {
     if !obstacle.is_rising() {
-        return Examined::Refused(2);
+        return Examined::Refused(refusals::SHAPE);
     }
     if !domain::is_profile(p) {
-        return Examined::Refused(1);
+        return Examined::Refused(refusals::NUMBER);
     }
     if !domain::is_profile(q) {
-        return Examined::Refused(1);
+        return Examined::Refused(refusals::NUMBER);
     }
     calls::examine_legs(limit, agent, obstacle)
 }

@@ -33,7 +33,7 @@ fn closing_at(limit: f64, agent: Leg, obstacle: Leg, t: TimePoint) -> Verdict
     let t0 = detect::range_start(agent, obstacle);
     let since = t.since(t0);
     let Span::Of(d) = since else {
-        return Verdict::Refused(7);
+        return Verdict::Refused(refusals::STRAYED);
     };
     let meeting = quadratic::meeting_from(limit, agent, obstacle, t0);
     match meeting {

@@ -3,14 +3,14 @@
 use mathlib.Core.Bool.{cond}
 use lib.Ieee
 use lib.Ieee.{Float}
-use Rattle.floats.specs.Domain.{still}
+use Rattle.refusals.specs.Names.{NUMBER, STRAYED}
+use Rattle.root.specs.Root.{withRoot}
+use Rattle.floats.specs.Constants.{hundredMillionth}
 use Rattle.numbers.specs.Time.{spanBetween, secondsOf}
 use Rattle.numbers.specs.declared.time.Span.{Span}
 use Rattle.numbers.specs.declared.time.Span.the-variants as S
-use Rattle.root.specs.declared.nearest.Root.{Root}
-use Rattle.root.specs.declared.nearest.Root.the-variants as R
 use Rattle.shapes.specs.Leg.{placeOf}
-use Rattle.shapes.specs.Vector.{difference, divided}
+use Rattle.shapes.specs.Vector.{vectorDifference, divided}
 use Rattle.shapes.specs.declared.waypoint.Leg.{Leg}
 use Rattle.courses.specs.Norm.{normOf}
 use Rattle.courses.specs.declared.course.Run.{Run}
@@ -31,29 +31,24 @@ runOf leg = lasting (spanBetween (leg .start .time) (leg .end .time))
           from = placeOf (leg .start);
           to = placeOf (leg .end);
           seconds = dt;
-          velocity = divided (difference (placeOf (leg .end)) (placeOf (leg .start))) dt;
+          velocity = divided (vectorDifference (placeOf (leg .end)) (placeOf (leg .start))) dt;
         })
 
     lasting : Span → Ran
     lasting (S.Of d) = in-seconds (secondsOf (d .0))
     lasting S.Strayed = N.Strayed
 
--- Going on with a root, and with a leg in motion.
-abbrev pub rooted : Root → (Float → Heading) → Heading
-rooted (R.Of s) go = go s
-rooted R.Refused go = Refused 1
-
 abbrev pub running : Ran → (Run → Heading) → Heading
 running (N.Of run) go = go run
-running N.Strayed go = Refused 7
+running N.Strayed go = Refused STRAYED
 
 -- None where the length is not above 1e-8; else the direction, and the speed, which is the norm of the velocity (RULES 10.1, 10.2).
 unfoldable pub courseOf : Leg → Heading
 courseOf leg =
-    let way = difference (placeOf (leg .end)) (placeOf (leg .start)) in
-    rooted (normOf way) (λ length.
-    cond (Ieee.lt still length)
+    let way = vectorDifference (placeOf (leg .end)) (placeOf (leg .start)) in
+    withRoot (Refused NUMBER) (normOf way) (λ distance.
+    cond (Ieee.lt hundredMillionth distance)
     (running (runOf leg) (λ run.
-    rooted (normOf (run .velocity)) (λ speed.
-    Along (record { run = run; direction = divided way length; length = length; speed = speed }))))
+    withRoot (Refused NUMBER) (normOf (run .velocity)) (λ speed.
+    Along (record { run = run; direction = divided way distance; distance = distance; speed = speed }))))
     Missing)

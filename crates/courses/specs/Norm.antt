@@ -2,7 +2,7 @@
 -- Assumes nothing.
 use mathlib.Core.Bool.{cond}
 use lib.Ieee
-use Rattle.floats.specs.Domain.{still}
+use Rattle.floats.specs.Constants.{hundredMillionth}
 use Rattle.root.specs.Root.{rootOf}
 use Rattle.root.specs.declared.nearest.Root.{Root}
 use Rattle.root.specs.declared.nearest.Root.the-variants as R
@@ -20,5 +20,5 @@ unfoldable pub directionOf : Vector → Direction
 directionOf v = by (normOf v)
   where
     by : Root → Direction
-    by (R.Of n) = cond (Ieee.lt still n) (Along (divided v n)) Missing
+    by (R.Of n) = cond (Ieee.lt hundredMillionth n) (Along (divided v n)) Missing
     by R.Refused = Refused

@@ -28,7 +28,7 @@ pub enum Ran {
 pub struct Course {
     pub run: Run,
     pub direction: Vector,
-    pub length: f64,
+    pub distance: f64,
     pub speed: f64,
 }
 
@@ -72,24 +72,24 @@ pub fn course_of(leg: Leg) -> Heading
     let end = leg.end;
     let way = end.place().minus(start.place());
     let long = norm::norm(way);
-    let Root::Of(length) = long else {
-        return Heading::Refused(1);
+    let Root::Of(distance) = long else {
+        return Heading::Refused(refusals::NUMBER);
     };
-    if !(length > 1e-8) {
+    if !(distance > 1e-8) {
         return Heading::Missing;
     }
     let ran = run_of(leg);
     let Ran::Of(run) = ran else {
-        return Heading::Refused(7);
+        return Heading::Refused(refusals::STRAYED);
     };
     let fast = norm::norm(run.velocity);
     let Root::Of(speed) = fast else {
-        return Heading::Refused(1);
+        return Heading::Refused(refusals::NUMBER);
     };
     Heading::Along(Course {
         run,
-        direction: way.over(length),
-        length,
+        direction: way.over(distance),
+        distance,
         speed,
     })
 }

@@ -22,8 +22,8 @@ pub fn norm(v: Vector) -> Root
 pub fn try_normalize(v: Vector) -> Direction
     ensures { λ r. ⌜ r ≡ directionOf v ⌝ }
 {
-    let length = norm(v);
-    let Root::Of(n) = length else {
+    let found = norm(v);
+    let Root::Of(n) = found else {
         return Direction::Refused;
     };
     if !(n > 1e-8) {

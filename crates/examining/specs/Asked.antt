@@ -6,9 +6,10 @@ use lib.Dec.{eqb}
 use lib.ListN.{length}
 use lib.IntN.{ℤ}
 use lib.Ieee.{Float, binary64, toBits}
+use Rattle.refusals.specs.Names.{NUMBER, SHAPE}
 use Rattle.lists.specs.Outcome.{Outcome, Gives, Refuses}
 use Rattle.lists.specs.Listed.{listedTo}
-use Rattle.floats.specs.Size.{nought}
+use Rattle.floats.specs.Constants.{nought}
 use Rattle.shapes.specs.declared.profile.CircularProfile.{CircularProfile}
 use Rattle.obstacles.specs.Obstacle.{boxOfTrajectory}
 use Rattle.obstacles.specs.Lent.{Lent, waypointIn}
@@ -29,8 +30,8 @@ askedHull p times xs ys =
     (cond (eqb (length times) 0)
     Missing
     (Of (boxOfTrajectory (p .footprint) (listedTo (waypointIn times xs ys) (length times) 0))))
-    (Refused 1))
-    (Refused 2)
+    (Refused NUMBER))
+    (Refused SHAPE)
 
 -- The number and the words of each case: whether there is a box, and its bounds.
 abbrev pub hullOutcome : Hull → Outcome

@@ -20,10 +20,10 @@ pub fn box_of_obstacle(p: CircularProfile, times: &[i64], xs: &[f64], ys: &[f64]
     let starts = [0usize];
     let numbers = [p.footprint, p.follow, 0.0];
     if !examine::is_shaped(&starts, &numbers, times, xs, ys) {
-        return Hull::Refused(2);
+        return Hull::Refused(refusals::SHAPE);
     }
     if !examine::are_allowed(&starts, &numbers, times, xs, ys) {
-        return Hull::Refused(1);
+        return Hull::Refused(refusals::NUMBER);
     }
     if times.len() == 0 {
         return Hull::Missing;

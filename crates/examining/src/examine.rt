@@ -189,19 +189,19 @@ pub fn examine(
     ensures { λ r. ⌜ r ≡ agentExamined p leg (lentOf (now (starts .entry)) (now (numbers .entry)) (now (times .entry)) (now (xs .entry)) (now (ys .entry))) ⌝ }
 {
     if !is_shaped(starts, numbers, times, xs, ys) {
-        return Examined::Refused(2);
+        return Examined::Refused(refusals::SHAPE);
     }
     if !domain::is_profile(p) {
-        return Examined::Refused(1);
+        return Examined::Refused(refusals::NUMBER);
     }
     if !domain::is_leg(leg) {
-        return Examined::Refused(1);
+        return Examined::Refused(refusals::NUMBER);
     }
     if !are_allowed(starts, numbers, times, xs, ys) {
-        return Examined::Refused(1);
+        return Examined::Refused(refusals::NUMBER);
     }
     if leg.is_backward() {
-        return Examined::Refused(3);
+        return Examined::Refused(refusals::BACKWARD);
     }
     Examined::Fine
 }

@@ -11,7 +11,7 @@ use lib.Ieee.{Float}
 use Rattle.lists.specs.Listed.{every}
 use Rattle.floats.proofs.Tests.{failed, is-true}
 use Rattle.numbers.proofs.Integers.{below-or-at-most, at-most-trans, difference-mono}
-use Rattle.numbers.proofs.Reach.{both}
+use Rattle.numbers.proofs.Exact.{both}
 use Rattle.shapes.specs.Box.{overlap}
 use Rattle.limits.specs.Domain.{isLimit, isLeg, isProfile}
 use Rattle.shapes.specs.Leg.{isRising, isBrief}

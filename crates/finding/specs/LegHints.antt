@@ -5,7 +5,7 @@ use mathlib.Core.Bool.{cond, not, _&&_}
 use lib.Signed.{ltZ}
 use lib.Ieee
 use lib.Ieee.{Float, binary64}
-use Rattle.floats.specs.Size.{nought}
+use Rattle.floats.specs.Constants.{nought}
 use Rattle.shapes.specs.Vector.{dotOf}
 use Rattle.courses.specs.declared.course.Course.{Course}
 use Rattle.courses.specs.declared.course.Run.{Run}

@@ -5,6 +5,8 @@ use mathlib.Core.Bool.{cond}
 use mathlib.Core.List.{List, [], _∷_}
 use lib.Ieee
 use lib.Ieee.{Float, binary64}
+use Rattle.floats.specs.Constants.{thousandth}
+use Rattle.refusals.specs.Names.{STRAYED}
 use Rattle.shapes.specs.Box.{boxOfLeg, inflated, overlap}
 use Rattle.shapes.specs.Distance.{criticalDistance, criticalDistanceSquared, followDistance}
 use Rattle.shapes.specs.declared.bounding_box.BoundingBox.{BoundingBox}
@@ -26,13 +28,9 @@ use Rattle.finding.specs.LegHints.{withLeg}
 unfoldable pub gapsOf : CircularProfile → CircularProfile → Gaps
 gapsOf p q = record { critical = criticalDistance p q; squared = criticalDistanceSquared p q; follow = followDistance p q }
 
--- 1e-3 m.
-abbrev pub margin : Float
-margin = Ieee.ofBits binary64 0x3f50_624d_d2f1_a9fc
-
 -- The box of a leg: its footprint's, then grown by 1e-3 in a step of its own (RULES 10.4).
 abbrev pub hintBox : Float → Leg → BoundingBox
-hintBox footprint leg = inflated (boxOfLeg footprint leg) margin
+hintBox footprint leg = inflated (boxOfLeg footprint leg) thousandth
 
 -- The hints for one leg, behind those that were found before; none where its box does not overlap the agent's (RULES 10.3, 10.7).
 unfoldable pub nearLeg : Course → BoundingBox → Float → Gaps → ℕ → Leg → WaitHints → WaitHints
@@ -40,7 +38,7 @@ nearLeg agent bounds footprint gaps obstacle leg hints = cond (overlap bounds (h
   where
     by : Ran → WaitHints
     by (N.Of run) = withLeg agent run gaps obstacle hints
-    by N.Strayed = refusedBy 7
+    by N.Strayed = refusedBy STRAYED
 
 -- Those for legs in order.
 unfoldable pub withLegs : Course → BoundingBox → Float → Gaps → ℕ → List Leg → WaitHints → WaitHints

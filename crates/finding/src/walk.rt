@@ -47,7 +47,7 @@ fn near_leg(
     }
     let ran = course::run_of(leg);
     let Ran::Of(run) = ran else {
-        return WaitHints::refused_by(7);
+        return WaitHints::refused_by(refusals::STRAYED);
     };
     leg_hints::with_leg(agent, run, gaps, obstacle, hints)
 }

@@ -4,7 +4,8 @@ use Prim.Native.Nat.{ℕ}
 use mathlib.Core.Bool.{cond, _&&_}
 use lib.Ieee
 use lib.Ieee.{Float}
-use Rattle.floats.specs.Size.{nought}
+use Rattle.refusals.specs.Names.{STRAYED}
+use Rattle.floats.specs.Constants.{nought}
 use Rattle.numbers.specs.Time.{instantOfSeconds}
 use Rattle.numbers.specs.declared.time.Instant.{Instant}
 use Rattle.numbers.specs.declared.time.Instant.the-variants as I
@@ -29,7 +30,7 @@ withStop hints p t obstacle = by (instantOfSeconds t)
   where
     by : Instant → WaitHints
     by (I.At tp) = withHint hints (record { place = p; until = tp; obstacle = obstacle })
-    by I.Strayed = refusedBy 7
+    by I.Strayed = refusedBy STRAYED
 
 -- The first wait, if there is one, then the rounds (RULES 10.19 to 10.22).
 unfoldable pub opened : Course → Run → Chase → ℕ → WaitHints → Opening → WaitHints
@@ -51,4 +52,4 @@ following agent leg gaps aligned obstacle hints = by (firstSeen agent leg)
   where
     by : Sight → WaitHints
     by (G.At apart t) = followed agent leg gaps aligned obstacle hints apart t
-    by G.Strayed = refusedBy 7
+    by G.Strayed = refusedBy STRAYED

@@ -21,7 +21,7 @@ fn with_stop(hints: WaitHints, place: Vector, t: f64, obstacle: usize) -> WaitHi
 {
     let tp = TimePoint::from_secs_f64(t);
     let Instant::At(until) = tp else {
-        return WaitHints::refused_by(7);
+        return WaitHints::refused_by(refusals::STRAYED);
     };
     let hint = WaitHint {
         place,
@@ -92,7 +92,7 @@ pub fn follow(
 {
     let sight = chase::first_seen(agent, leg);
     let Sight::At(apart, t) = sight else {
-        return WaitHints::refused_by(7);
+        return WaitHints::refused_by(refusals::STRAYED);
     };
     follow_from(agent, leg, gaps, aligned, obstacle, hints, apart, t)
 }

@@ -9,7 +9,7 @@ ghost use Rattle.proximity.specs.Proximity.{proximityOutcome};
 ghost use Rattle.proximity.specs.Asked.{askedPosition, askedProximity, positionOutcome};
 ghost use Rattle.conflicts.specs.Conflict.{verdictOutcome};
 ghost use Rattle.conflicts.specs.Asked.{askedConflict};
-ghost use Rattle.taking.specs.Plain.{legOf, profileOf};
+ghost use Rattle.taking.specs.Plain.{plainLeg, plainProfile};
 
 // Where a leg of the agent's is at the instant t, and how fast it goes.
 #[no_mangle]
@@ -23,7 +23,7 @@ pub extern "C" fn igelbert_position(
     t: i64,
     out: &mut [u64],
 ) -> u64
-    ensures { λ r. ⌜ Handed (positionOutcome (askedPosition (legOf t0 x0 y0 t1 x1 y1) (record { 0 = t }))) (now (out .entry)) (now (out .exit)) r ⌝ }
+    ensures { λ r. ⌜ Handed (positionOutcome (askedPosition (plainLeg t0 x0 y0 t1 x1 y1) (record { 0 = t }))) (now (out .entry)) (now (out .exit)) r ⌝ }
 {
     let leg = legs::leg_of(t0, x0, y0, t1, x1, y1);
     proximity_words::give_position(calls::position(leg, TimePoint(t)), out)
@@ -47,7 +47,7 @@ pub extern "C" fn igelbert_detect_proximity(
     y3: f64,
     out: &mut [u64],
 ) -> u64
-    ensures { λ r. ⌜ Handed (proximityOutcome (askedProximity limit (legOf t0 x0 y0 t1 x1 y1) (legOf t2 x2 y2 t3 x3 y3))) (now (out .entry)) (now (out .exit)) r ⌝ }
+    ensures { λ r. ⌜ Handed (proximityOutcome (askedProximity limit (plainLeg t0 x0 y0 t1 x1 y1) (plainLeg t2 x2 y2 t3 x3 y3))) (now (out .entry)) (now (out .exit)) r ⌝ }
 {
     let agent = legs::leg_of(t0, x0, y0, t1, x1, y1);
     let obstacle = legs::leg_of(t2, x2, y2, t3, x3, y3);
@@ -76,7 +76,7 @@ pub extern "C" fn igelbert_have_conflict(
     limit: f64,
     out: &mut [u64],
 ) -> u64
-    ensures { λ r. ⌜ Handed (verdictOutcome (askedConflict (profileOf footprint follow) (legOf t0 x0 y0 t1 x1 y1) (profileOf footprint2 follow2) (legOf t2 x2 y2 t3 x3 y3) limit)) (now (out .entry)) (now (out .exit)) r ⌝ }
+    ensures { λ r. ⌜ Handed (verdictOutcome (askedConflict (plainProfile footprint follow) (plainLeg t0 x0 y0 t1 x1 y1) (plainProfile footprint2 follow2) (plainLeg t2 x2 y2 t3 x3 y3) limit)) (now (out .entry)) (now (out .exit)) r ⌝ }
 {
     let p = CircularProfile { footprint, follow };
     let agent = legs::leg_of(t0, x0, y0, t1, x1, y1);

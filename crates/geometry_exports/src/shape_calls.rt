@@ -8,7 +8,7 @@ ghost use Rattle.lists.specs.Outcome.{Handed};
 ghost use Rattle.shapes.specs.Distance.{criticalDistance, criticalDistanceSquared, followDistance};
 ghost use Rattle.limits.specs.Asked.{askedDistance, askedBox, askedOverlap, distanceOutcome, boxOutcome, overlapOutcome};
 ghost use Rattle.examining.specs.Asked.{askedHull, hullOutcome};
-ghost use Rattle.taking.specs.Plain.{legOf, profileOf};
+ghost use Rattle.taking.specs.Plain.{plainLeg, plainProfile};
 
 // How near two carts may stand.
 #[no_mangle]
@@ -19,7 +19,7 @@ pub extern "C" fn igelbert_critical_distance(
     follow2: f64,
     out: &mut [u64],
 ) -> u64
-    ensures { λ r. ⌜ Handed (distanceOutcome (askedDistance (profileOf footprint follow) (profileOf footprint2 follow2) (criticalDistance (profileOf footprint follow) (profileOf footprint2 follow2)))) (now (out .entry)) (now (out .exit)) r ⌝ }
+    ensures { λ r. ⌜ Handed (distanceOutcome (askedDistance (plainProfile footprint follow) (plainProfile footprint2 follow2) (criticalDistance (plainProfile footprint follow) (plainProfile footprint2 follow2)))) (now (out .entry)) (now (out .exit)) r ⌝ }
 {
     let p = CircularProfile { footprint, follow };
     let q = CircularProfile {
@@ -38,7 +38,7 @@ pub extern "C" fn igelbert_critical_distance_squared(
     follow2: f64,
     out: &mut [u64],
 ) -> u64
-    ensures { λ r. ⌜ Handed (distanceOutcome (askedDistance (profileOf footprint follow) (profileOf footprint2 follow2) (criticalDistanceSquared (profileOf footprint follow) (profileOf footprint2 follow2)))) (now (out .entry)) (now (out .exit)) r ⌝ }
+    ensures { λ r. ⌜ Handed (distanceOutcome (askedDistance (plainProfile footprint follow) (plainProfile footprint2 follow2) (criticalDistanceSquared (plainProfile footprint follow) (plainProfile footprint2 follow2)))) (now (out .entry)) (now (out .exit)) r ⌝ }
 {
     let p = CircularProfile { footprint, follow };
     let q = CircularProfile {
@@ -57,7 +57,7 @@ pub extern "C" fn igelbert_follow_distance(
     follow2: f64,
     out: &mut [u64],
 ) -> u64
-    ensures { λ r. ⌜ Handed (distanceOutcome (askedDistance (profileOf footprint follow) (profileOf footprint2 follow2) (followDistance (profileOf footprint follow) (profileOf footprint2 follow2)))) (now (out .entry)) (now (out .exit)) r ⌝ }
+    ensures { λ r. ⌜ Handed (distanceOutcome (askedDistance (plainProfile footprint follow) (plainProfile footprint2 follow2) (followDistance (plainProfile footprint follow) (plainProfile footprint2 follow2)))) (now (out .entry)) (now (out .exit)) r ⌝ }
 {
     let p = CircularProfile { footprint, follow };
     let q = CircularProfile {
@@ -80,7 +80,7 @@ pub extern "C" fn igelbert_box_of_leg(
     y1: f64,
     out: &mut [u64],
 ) -> u64
-    ensures { λ r. ⌜ Handed (boxOutcome (askedBox (profileOf footprint follow) (legOf t0 x0 y0 t1 x1 y1))) (now (out .entry)) (now (out .exit)) r ⌝ }
+    ensures { λ r. ⌜ Handed (boxOutcome (askedBox (plainProfile footprint follow) (plainLeg t0 x0 y0 t1 x1 y1))) (now (out .entry)) (now (out .exit)) r ⌝ }
 {
     let p = CircularProfile { footprint, follow };
     let leg = legs::leg_of(t0, x0, y0, t1, x1, y1);
@@ -97,7 +97,7 @@ pub extern "C" fn igelbert_box_of_obstacle(
     ys: &[f64],
     out: &mut [u64],
 ) -> u64
-    ensures { λ r. ⌜ Handed (hullOutcome (askedHull (profileOf footprint follow) (now (times .entry)) (now (xs .entry)) (now (ys .entry)))) (now (out .entry)) (now (out .exit)) r ⌝ }
+    ensures { λ r. ⌜ Handed (hullOutcome (askedHull (plainProfile footprint follow) (now (times .entry)) (now (xs .entry)) (now (ys .entry)))) (now (out .entry)) (now (out .exit)) r ⌝ }
 {
     let p = CircularProfile { footprint, follow };
     shape_words::give_hull(examining::calls::box_of_obstacle(p, times, xs, ys), out)

@@ -73,7 +73,7 @@ pub fn give_stay(s: Stay, out: &mut [u64]) -> u64
     ensures { λ r. ⌜ Handed (stayOutcome s) (now (out .entry)) (now (out .exit)) r ⌝ }
 {
     match s {
-        Stay::Refused => words::refuse(out, 1),
+        Stay::Refused => words::refuse(out, refusals::NUMBER),
         Stay::Nothing => {
             let none = [0u64];
             words::hand_over(out, &none)

@@ -13,7 +13,7 @@ pub fn give_distance(d: Distance, out: &mut [u64]) -> u64
     ensures { λ r. ⌜ Handed (distanceOutcome d) (now (out .entry)) (now (out .exit)) r ⌝ }
 {
     let Distance::Of(x) = d else {
-        return words::refuse(out, 1);
+        return words::refuse(out, refusals::NUMBER);
     };
     let w = [word::of_double(x)];
     words::hand_over(out, &w)
@@ -62,7 +62,7 @@ pub fn give_overlap(o: Overlap, out: &mut [u64]) -> u64
     ensures { λ r. ⌜ Handed (overlapOutcome o) (now (out .entry)) (now (out .exit)) r ⌝ }
 {
     match o {
-        Overlap::Refused => words::refuse(out, 1),
+        Overlap::Refused => words::refuse(out, refusals::NUMBER),
         Overlap::Apart => {
             let w = [0u64];
             words::hand_over(out, &w)

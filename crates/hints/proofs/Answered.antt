@@ -23,7 +23,7 @@ use Rattle.waits.specs.Hints as W
 use Rattle.waits.specs.declared.wait_hints.WaitHints.{WaitHints}
 use Rattle.waits.proofs.Sound.{MayBe, Sound}
 use Rattle.ranking.specs.Ranked.{ranked, Ranking}
-use Rattle.ranking.specs.Hints.{noHints, refusedBy, held}
+use Rattle.ranking.specs.Hints.{noRanked, rankedRefused, rankedHeld}
 use Rattle.ranking.specs.declared.order.RankedHint.{RankedHint}
 use Rattle.ranking.specs.declared.ranked_hints.RankedHints.{RankedHints}
 use Rattle.ranking.proofs.OneByOne.{withAllRanked, found-ranked}
@@ -52,7 +52,7 @@ pub record Refusal (agent : Leg) (found : WaitHints) (given : RankedHints) : Typ
   pub number : ℕ
   pub ground : Ground agent found number
   pub told : (number ≡ 4) ⊎ ((number ≡ 7) ⊎ (number ≡ 10))
-  pub alone : given ≡ refusedBy number
+  pub alone : given ≡ rankedRefused number
 
 -- All hints that were found, at most 64, measured along the agent's leg and ranked.
 pub record Answer (agent : Leg) (found : WaitHints) (given : RankedHints) : Type 0 where
@@ -66,10 +66,10 @@ pub record Answer (agent : Leg) (found : WaitHints) (given : RankedHints) : Type
   pub few : length measured ≤ 64
   -- The answer holds all of them, in order, and where they are level as they were found (RULES 11.6, 11.7).
   pub unrefused : given .refused ≡ 0
-  pub ranking : Ranking (held given) measured
+  pub ranking : Ranking (rankedHeld given) measured
   -- It is `ranked measured`, and no other list is such a ranking (RULES 18.2).
-  pub as-ranked : held given ≡ ranked measured
-  pub only : (m : List RankedHint) → Ranking m measured → m ≡ held given
+  pub as-ranked : rankedHeld given ≡ ranked measured
+  pub only : (m : List RankedHint) → Ranking m measured → m ≡ rankedHeld given
 
 -- ---- Found, measured, ranked.
 
@@ -81,14 +81,14 @@ module _ (agent : Leg) (found : WaitHints) (s : Sound found) where
       omega (arith, length-take-le (found .count) (found .all) (omega (arith, s .long)))
 
   answer : (scale : Scale) (given : RankedHints) → found .refused ≡ 0 → scaleOf agent ≡ L.By scale →
-      (g : Graded scale noHints (W.held found)) → given ≡ withAllRanked noHints (g .measured) → Answer agent found given
+      (g : Graded scale noRanked (W.held found)) → given ≡ withAllRanked noRanked (g .measured) → Answer agent found given
   answer scale given searched line g same =
       let l = g .measured in
       let count : length l ≡ length (W.held found) =
       sym (length-map l (λ r. r .hint)) ∙ ap length (g .in-turn .as-found) in
       let few : length l ≤ 64 = omega (arith, held-few) in
       let holds = found-ranked l few in
-      let these : held given ≡ ranked l = ap held same ∙ holds .these in
+      let these : rankedHeld given ≡ ranked l = ap rankedHeld same ∙ holds .these in
       record {
         searched = searched;
         scale = scale;
@@ -123,7 +123,7 @@ hints-answered p leg bounds obstacles a rising = going (W.isGoing found) refl
     searched : W.isGoing found ≡ true → found .refused ≡ 0
     searched e = eqb-true (found .refused) 0 e
 
-    by-grades : (scale : Scale) → W.isGoing found ≡ true → scaleOf leg ≡ L.By scale → Grading scale noHints (W.held found) →
+    by-grades : (scale : Scale) → W.isGoing found ≡ true → scaleOf leg ≡ L.By scale → Grading scale noRanked (W.held found) →
         Refusal leg found given ⊎ Answer leg found given
     by-grades scale e line (inl (strays, refused)) =
         inl (record {
@@ -137,7 +137,7 @@ hints-answered p leg bounds obstacles a rising = going (W.isGoing found) refl
     by-scale : (scaling : Scaling) → W.isGoing found ≡ true → scaleOf leg ≡ scaling → Scaled scaling →
         Refusal leg found given ⊎ Answer leg found given
     by-scale (L.By scale) e line v =
-        by-grades scale e line (graded leg scale (a .own) line noHints (W.held found) (sound .placed))
+        by-grades scale e line (graded leg scale (a .own) line noRanked (W.held found) (sound .placed))
     by-scale (L.Refused n) e line four =
         inl (record { number = n; ground = NoLine (searched e) line; told = inl four; alone = rw (e, line) })
 
@@ -159,13 +159,13 @@ hints-answered p leg bounds obstacles a rising = going (W.isGoing found) refl
 
 -- An input that is refused is refused by its own fault's number (RULES 5.1),
 pub asked-refused : (p : CircularProfile) (agent : Leg) (lent : Lent) (n : ℕ) →
-    agentExamined p agent lent ≡ X.Refused n → askedHints p agent lent ≡ refusedBy n
+    agentExamined p agent lent ≡ X.Refused n → askedHints p agent lent ≡ rankedRefused n
 unfolding askedHints
 asked-refused p agent lent n e = rw e
 
 -- one of less than 10 ns by 4 (RULES 4.13),
 pub asked-short : (p : CircularProfile) (agent : Leg) (lent : Lent) →
-    agentExamined p agent lent ≡ X.Fine → isBrief agent ≡ true → askedHints p agent lent ≡ refusedBy 4
+    agentExamined p agent lent ≡ X.Fine → isBrief agent ≡ true → askedHints p agent lent ≡ rankedRefused 4
 unfolding askedHints
 asked-short p agent lent fine e = rw (fine, e)
 

@@ -5,13 +5,13 @@ use mathlib.Core.Logic.{_⊎_, inl, inr}
 use mathlib.Core.Bool.{true}
 use mathlib.Core.List.{List, [], _∷_, map, List·Memᴰ, List·Memᴰ·head, List·Memᴰ·tail}
 use Rattle.lists.specs.Listed.{every}
-use Rattle.numbers.proofs.Reach.{both}
+use Rattle.numbers.proofs.Exact.{both}
 use Rattle.limits.specs.Domain.{isLeg}
 use Rattle.shapes.specs.declared.waypoint.Leg.{Leg}
 use Rattle.waits.specs.declared.hint.WaitHint.{WaitHint}
 use Rattle.waits.proofs.Sound.{hasPlace}
 use Rattle.ranking.specs.Ranked.{isKnown}
-use Rattle.ranking.specs.Hints.{refusedBy, withRanked}
+use Rattle.ranking.specs.Hints.{rankedRefused, withRanked}
 use Rattle.ranking.specs.declared.order.RankedHint.{RankedHint}
 use Rattle.ranking.specs.declared.ranked_hints.RankedHints.{RankedHints}
 use Rattle.ranking.proofs.OneByOne.{withAllRanked}
@@ -42,7 +42,7 @@ pub record Graded (scale : Scale) (list : RankedHints) (found : List WaitHint) :
 
 -- The one, and refused 7, or the other.
 abbrev pub Grading : Scale → RankedHints → List WaitHint → Type 0
-Grading scale list found = (Strays scale found × (gradedOnto scale list found ≡ refusedBy 7)) ⊎ Graded scale list found
+Grading scale list found = (Strays scale found × (gradedOnto scale list found ≡ rankedRefused 7)) ⊎ Graded scale list found
 
 -- One that is measured, and then the others.
 one-more : (scale : Scale) (list : RankedHints) (h : WaitHint) (hs : List WaitHint) (r : RankedHint) →

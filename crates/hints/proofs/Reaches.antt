@@ -5,25 +5,25 @@ use mathlib.Core.Bool.{Bool, true, false, not, cond}
 use lib.IntN.{pos}
 use lib.Ieee
 use lib.Ieee.{Float, binary64, add, sub, mul, div, neg, lt, le, isNan, ofBits}
-use Rattle.floats.specs.Order.{Finite}
-use Rattle.floats.specs.Size.{Within}
+use Rattle.floats.proofs.Relations.{Finite}
+use Rattle.floats.proofs.Magnitude.{Within}
 use Rattle.floats.specs.Compare.{isBetween}
-use Rattle.floats.specs.Domain.{still}
+use Rattle.floats.specs.Constants.{hundredMillionth}
 use Rattle.floats.proofs.Tests.{passed, failed, is-true}
 use Rattle.floats.proofs.Strict.{not-lt→le}
 use Rattle.floats.proofs.NotANumber.{finite-known}
 use Rattle.floats.proofs.Bounds.{within-known, within-finite, within-of-bounds, within-le, within-lower, within-upper}
-use Rattle.numbers.specs.Time.{inReach, spanBetween, secondsOf, spanOfSeconds}
+use Rattle.numbers.specs.Time.{isExact, spanBetween, secondsOf, spanOfSeconds, withSpan}
 use Rattle.numbers.specs.declared.time.Duration.{Duration}
 use Rattle.numbers.specs.declared.time.Span.{Span}
 use Rattle.numbers.specs.declared.time.Span.the-variants as S
-use Rattle.numbers.proofs.Reach.{both}
-use Rattle.numbers.proofs.Answers.{span-of-seconds-in-reach}
+use Rattle.numbers.proofs.Exact.{both}
+use Rattle.numbers.proofs.Answers.{span-of-seconds-exact}
 use Rattle.numbers.proofs.Spans.{spanFrom}
 use Rattle.root.proofs.Size.{Fine}
 use Rattle.shapes.specs.Leg.{placeOf}
 use Rattle.limits.specs.Domain.{isWaypoint, isLeg}
-use Rattle.shapes.specs.Vector.{difference, divided, dotOf}
+use Rattle.shapes.specs.Vector.{vectorDifference, divided, dotOf}
 use Rattle.shapes.specs.declared.vector.Vector.{Vector}
 use Rattle.shapes.specs.declared.waypoint.Leg.{Leg}
 use Rattle.shapes.specs.declared.waypoint.Waypoint.{Waypoint}
@@ -36,7 +36,7 @@ use Rattle.waits.specs.declared.hint.WaitHint.{WaitHint}
 use Rattle.ranking.specs.Ranked.{isKnown}
 use Rattle.lending.specs.Lent.{isFinite}
 use Rattle.ranking.specs.declared.order.RankedHint.{RankedHint}
-use Rattle.hints.specs.Contour.{spanning, scaleOf, contourOf, gradeOf}
+use Rattle.hints.specs.Contour.{scaleOf, contourOf, gradeOf}
 use Rattle.hints.specs.declared.contour.Scale.{Scale}
 use Rattle.hints.specs.declared.contour.Scaling.{Scaling}
 use Rattle.hints.specs.declared.contour.Scaling.the-variants as L
@@ -69,7 +69,7 @@ waypoint-spans w e =
 
 module _ (leg : Leg) (e : isLeg leg ≡ true) where
   abbrev way : Vector
-  way = difference (placeOf (leg .end)) (placeOf (leg .start))
+  way = vectorDifference (placeOf (leg .end)) (placeOf (leg .start))
 
   from-spans : Spans tenThousand (placeOf (leg .start))
   from-spans = waypoint-spans (leg .start) (leg-start leg e)
@@ -84,11 +84,11 @@ module _ (leg : Leg) (e : isLeg leg ≡ true) where
   way-normed = norm-given way way-spans tt tt tt
 
   -- By a length that is not below 1e-8.
-  direction-spans : {n : Float} → Fine n → lt n still ≡ false → Spans steepest (divided way n)
+  direction-spans : {n : Float} → Fine n → lt n hundredMillionth ≡ false → Spans steepest (divided way n)
   unfolding Ieee.ofInt add div ofBits
   direction-spans {n} f long =
-      let least = not-lt→le n still (finite-known n (f .is-finite)) (unfold isNan in tt) (failed long) in
-      spans-le steepest (spans-divided still n way-spans least (f .is-finite) tt tt) (unfold le in tt)
+      let least = not-lt→le n hundredMillionth (finite-known n (f .is-finite)) (unfold isNan in tt) (failed long) in
+      spans-le steepest (spans-divided hundredMillionth n way-spans least (f .is-finite) tt tt) (unfold le in tt)
 
   lasts : spanBetween (leg .start .time) (leg .end .time) ≡ S.Of (spanFrom (leg .start .time) (leg .end .time))
   lasts =
@@ -101,7 +101,7 @@ module _ (leg : Leg) (e : isLeg leg ≡ true) where
   unfolding scaleOf
   scale-given =
       rw (way-normed .given, lasts)
-      (unless-short (lt (way-normed .length) still) _ (λ long.
+      (unless-short (lt (way-normed .length) hundredMillionth) _ (λ long.
       record { from-within = from-spans; direction-within = direction-spans (way-normed .fine) long }))
 
 -- ---- The grade of a hint.
@@ -109,7 +109,7 @@ module _ (leg : Leg) (e : isLeg leg ≡ true) where
 -- What is known of a ranked hint: it holds h, its contour is in reach, and its reach is finite, so no NaN (RULES 3.9, 4.7, 11.8).
 pub record Measured (h : WaitHint) (r : RankedHint) : Type 0 where
   pub same-hint : r .hint ≡ h
-  pub contour-in-reach : inReach (r .contour .0) ≡ true
+  pub contour-exact : isExact (r .contour .0) ≡ true
   pub reach-finite : Finite (r .reach)
   pub reach-known : isKnown r ≡ true
   pub reach-in-table : isFinite (r .reach) ≡ true
@@ -119,21 +119,21 @@ Graded h (G.Of r) = Measured h r
 Graded h G.Strayed = Unit
 
 spanning-graded : (h : WaitHint) (s : Span) (go : Duration → Grade) →
-    ((d : Duration) → s ≡ S.Of d → Graded h (go d)) → Graded h (spanning s go)
+    ((d : Duration) → s ≡ S.Of d → Graded h (go d)) → Graded h (withSpan G.Strayed s go)
 spanning-graded h (S.Of d) go k = k d refl
 spanning-graded h S.Strayed go k = tt
 
 -- A contour is made of seconds, so it was held against the reach (RULES 11.4).
-contour-given : (speed wait reach : Float) (d : Duration) → contourOf speed wait reach ≡ S.Of d → inReach (d .0) ≡ true
+contour-given : (speed wait reach : Float) (d : Duration) → contourOf speed wait reach ≡ S.Of d → isExact (d .0) ≡ true
 unfolding contourOf
-contour-given speed wait reach d = by (lt still speed)
+contour-given speed wait reach d = by (lt hundredMillionth speed)
   where
     late : Float
     late = sub binary64 wait (div binary64 reach speed)
 
-    by : (b : Bool) → cond b (spanOfSeconds late) (spanOfSeconds wait) ≡ S.Of d → inReach (d .0) ≡ true
-    by true e = span-of-seconds-in-reach late d e
-    by false e = span-of-seconds-in-reach wait d e
+    by : (b : Bool) → cond b (spanOfSeconds late) (spanOfSeconds wait) ≡ S.Of d → isExact (d .0) ≡ true
+    by true e = span-of-seconds-exact late d e
+    by false e = span-of-seconds-exact wait d e
 
 -- 10^6, the most of a hint's coordinate (RULES 4.7).
 abbrev million : Float
@@ -156,7 +156,7 @@ most = ofBits binary64 0x7fef_ffff_ffff_ffff
 
 -- From a start within 10^4 to a place within 10^6, along a direction within 2^41 (RULES 11.2).
 reach-within : {scale : Scale} (p : Vector) →
-    Bounded scale → isPlaced p ≡ true → Within most (dotOf (difference p (scale .from)) (scale .direction))
+    Bounded scale → isPlaced p ≡ true → Within most (dotOf (vectorDifference p (scale .from)) (scale .direction))
 unfolding Ieee.ofInt add mul ofBits
 reach-within {scale} p m e =
     let off = spans-difference (placed-spans p e) (m .from-within) tt tt in
@@ -165,13 +165,13 @@ reach-within {scale} p m e =
 graded : {scale : Scale} (h : WaitHint) → Bounded scale → isPlaced (h .place) ≡ true → Graded h (gradeOf scale h)
 unfolding gradeOf isFinite isBetween
 graded {scale} h m e =
-    let reach = dotOf (difference (h .place) (scale .from)) (scale .direction) in
+    let reach = dotOf (vectorDifference (h .place) (scale .from)) (scale .direction) in
     let within = reach-within (h .place) m e in
     spanning-graded h (spanBetween (scale .start) (h .until)) _ (λ d _.
     spanning-graded h (contourOf (scale .speed) (secondsOf (d .0)) reach) _ (λ contour given.
     record {
       same-hint = refl;
-      contour-in-reach = contour-given (scale .speed) (secondsOf (d .0)) reach contour given;
+      contour-exact = contour-given (scale .speed) (secondsOf (d .0)) reach contour given;
       reach-finite = within-finite within (unfold ofBits in tt);
       reach-known = is-true (not (isNan reach)) (within-known within);
       reach-in-table = rw (is-true (le (neg most) reach) (within-lower within), is-true (le reach most) (within-upper within));

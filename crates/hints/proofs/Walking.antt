@@ -10,7 +10,7 @@ use lib.Seq.{drop-cons, getD-take}
 use Rattle.waits.specs.Hints.{held}
 use Rattle.waits.specs.declared.hint.WaitHint.{WaitHint}
 use Rattle.waits.specs.declared.wait_hints.WaitHints.{WaitHints}
-use Rattle.ranking.specs.Hints.{refusedBy, withRanked}
+use Rattle.ranking.specs.Hints.{rankedRefused, withRanked}
 use Rattle.ranking.specs.declared.order.RankedHint.{RankedHint}
 use Rattle.ranking.specs.declared.ranked_hints.RankedHints.{RankedHints}
 use Rattle.hints.specs.Contour.{gradeOf, gradedOnto}
@@ -40,6 +40,6 @@ module _ (scale : Scale) (list : RankedHints) (hints : WaitHints) (i : ℕ) (d :
 
   -- One whose measures leave the range of times is refused 7.
   pub hint-strays : i < length (held hints) → gradeOf scale (getD (hints .all) i d) ≡ G.Strayed →
-      refusedBy 7 ≡ gradedOnto scale list (drop i (held hints))
+      rankedRefused 7 ≡ gradedOnto scale list (drop i (held hints))
   unfolding gradedOnto
   hint-strays h e = rw (from-hint h, e)

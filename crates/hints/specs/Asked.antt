@@ -1,6 +1,7 @@
 -- What the call for hints alone answers: the table and the agent are examined first (RULES 4.13, 5.1 to 5.7).
 -- Assumes nothing.
 use mathlib.Core.Bool.{cond}
+use Rattle.refusals.specs.Names.{NO_LINE}
 use Rattle.shapes.specs.Box.{boxOfLeg}
 use Rattle.shapes.specs.Leg.{isBrief}
 use Rattle.limits.specs.declared.domain.Examined.{Examined}
@@ -9,7 +10,7 @@ use Rattle.shapes.specs.declared.profile.CircularProfile.{CircularProfile}
 use Rattle.shapes.specs.declared.waypoint.Leg.{Leg}
 use Rattle.obstacles.specs.Lent.{Lent, obstaclesOf}
 use Rattle.obstacles.specs.Examined.{agentExamined}
-use Rattle.ranking.specs.Hints.{refusedBy}
+use Rattle.ranking.specs.Hints.{rankedRefused}
 use Rattle.ranking.specs.declared.ranked_hints.RankedHints.{RankedHints}
 use Rattle.hints.specs.Contour.{rankedHints}
 
@@ -18,5 +19,5 @@ unfoldable pub askedHints : CircularProfile → Leg → Lent → RankedHints
 askedHints p agent lent = examined (agentExamined p agent lent)
   where
     examined : Examined → RankedHints
-    examined X.Fine = cond (isBrief agent) (refusedBy 4) (rankedHints p agent (boxOfLeg (p .footprint) agent) (obstaclesOf lent))
-    examined (X.Refused n) = refusedBy n
+    examined X.Fine = cond (isBrief agent) (rankedRefused NO_LINE) (rankedHints p agent (boxOfLeg (p .footprint) agent) (obstaclesOf lent))
+    examined (X.Refused n) = rankedRefused n

@@ -4,15 +4,13 @@ use mathlib.Core.Bool.{cond}
 use mathlib.Core.List.{List, [], _∷_}
 use lib.Ieee
 use lib.Ieee.{Float, binary64}
-use Rattle.floats.specs.Domain.{still}
-use Rattle.numbers.specs.Time.{spanBetween, secondsOf, spanOfSeconds}
-use Rattle.numbers.specs.declared.time.Duration.{Duration}
+use Rattle.refusals.specs.Names.{NUMBER, NO_LINE, STRAYED}
+use Rattle.root.specs.Root.{withRoot}
+use Rattle.floats.specs.Constants.{hundredMillionth}
+use Rattle.numbers.specs.Time.{spanBetween, secondsOf, spanOfSeconds, withSpan}
 use Rattle.numbers.specs.declared.time.Span.{Span}
-use Rattle.numbers.specs.declared.time.Span.the-variants as S
-use Rattle.root.specs.declared.nearest.Root.{Root}
-use Rattle.root.specs.declared.nearest.Root.the-variants as R
 use Rattle.shapes.specs.Leg.{placeOf}
-use Rattle.shapes.specs.Vector.{difference, divided, dotOf}
+use Rattle.shapes.specs.Vector.{vectorDifference, divided, dotOf}
 use Rattle.shapes.specs.declared.bounding_box.BoundingBox.{BoundingBox}
 use Rattle.shapes.specs.declared.profile.CircularProfile.{CircularProfile}
 use Rattle.shapes.specs.declared.waypoint.Leg.{Leg}
@@ -21,7 +19,7 @@ use Rattle.obstacles.specs.Obstacle.{Obstacle}
 use Rattle.waits.specs.Hints as W
 use Rattle.waits.specs.declared.hint.WaitHint.{WaitHint}
 use Rattle.waits.specs.declared.wait_hints.WaitHints.{WaitHints}
-use Rattle.ranking.specs.Hints.{noHints, refusedBy, withRanked}
+use Rattle.ranking.specs.Hints.{noRanked, rankedRefused, withRanked}
 use Rattle.ranking.specs.declared.ranked_hints.RankedHints.{RankedHints}
 use Rattle.finding.specs.Walk.{hintsOf}
 use Rattle.hints.specs.declared.contour.Scale.{Scale}
@@ -30,48 +28,34 @@ use Rattle.hints.specs.declared.contour.Scaling.the-variants as L
 use Rattle.hints.specs.declared.contour.Grade.{Grade}
 use Rattle.hints.specs.declared.contour.Grade.the-variants as G
 
--- ---- Going on with a part that may be refused.
-
-abbrev pub rooted : Root → (Float → Scaling) → Scaling
-rooted (R.Of s) go = go s
-rooted R.Refused go = L.Refused 1
-
-abbrev pub lasting : Span → (Duration → Scaling) → Scaling
-lasting (S.Of d) go = go d
-lasting S.Strayed go = L.Refused 7
-
-abbrev pub spanning : Span → (Duration → Grade) → Grade
-spanning (S.Of d) go = go d
-spanning S.Strayed go = G.Strayed
-
 -- ---- One hint.
 
 -- The agent's line: 4 where it is shorter than 1e-8 (RULES 11.1).
 unfoldable pub scaleOf : Leg → Scaling
 scaleOf leg =
-    let way = difference (placeOf (leg .end)) (placeOf (leg .start)) in
-    rooted (normOf way) (λ length.
-    cond (Ieee.lt length still)
-    (L.Refused 4)
-    (lasting (spanBetween (leg .start .time) (leg .end .time)) (λ d.
+    let way = vectorDifference (placeOf (leg .end)) (placeOf (leg .start)) in
+    withRoot (L.Refused NUMBER) (normOf way) (λ distance.
+    cond (Ieee.lt distance hundredMillionth)
+    (L.Refused NO_LINE)
+    (withSpan (L.Refused STRAYED) (spanBetween (leg .start .time) (leg .end .time)) (λ d.
     L.By (record {
       start = leg .start .time;
       from = placeOf (leg .start);
-      direction = divided way length;
-      speed = Ieee.div binary64 length (secondsOf (d .0));
+      direction = divided way distance;
+      speed = Ieee.div binary64 distance (secondsOf (d .0));
     }))))
 
 -- The wait less the time that the agent takes to get there, where it gets along at all (RULES 11.4).
 unfoldable pub contourOf : Float → Float → Float → Span
 contourOf speed wait reach =
-    cond (Ieee.lt still speed) (spanOfSeconds (Ieee.sub binary64 wait (Ieee.div binary64 reach speed))) (spanOfSeconds wait)
+    cond (Ieee.lt hundredMillionth speed) (spanOfSeconds (Ieee.sub binary64 wait (Ieee.div binary64 reach speed))) (spanOfSeconds wait)
 
 -- Its reach, then its wait, then its contour (RULES 11.2 to 11.4, 11.8).
 unfoldable pub gradeOf : Scale → WaitHint → Grade
 gradeOf scale h =
-    let reach = dotOf (difference (h .place) (scale .from)) (scale .direction) in
-    spanning (spanBetween (scale .start) (h .until)) (λ d.
-    spanning (contourOf (scale .speed) (secondsOf (d .0)) reach) (λ contour.
+    let reach = dotOf (vectorDifference (h .place) (scale .from)) (scale .direction) in
+    withSpan G.Strayed (spanBetween (scale .start) (h .until)) (λ d.
+    withSpan G.Strayed (contourOf (scale .speed) (secondsOf (d .0)) reach) (λ contour.
     G.Of (record { contour = contour; reach = reach; hint = h })))
 
 -- ---- All of them.
@@ -83,15 +67,15 @@ gradedOnto scale list (h ∷ hs) = by (gradeOf scale h) (λ found. gradedOnto sc
   where
     by : Grade → (RankedHints → RankedHints) → RankedHints
     by (G.Of r) go = go (withRanked list r)
-    by G.Strayed go = refusedBy 7
+    by G.Strayed go = rankedRefused STRAYED
 
 -- The ranked hints of a leg of the agent's in its box: all are found first, then measured (RULES 5.7, 11.1, 11.5).
 unfoldable pub rankedHints : CircularProfile → Leg → BoundingBox → List Obstacle → RankedHints
 rankedHints p leg bounds obstacles = by (hintsOf p leg bounds obstacles)
   where
     measured : Scaling → List WaitHint → RankedHints
-    measured (L.By scale) hs = gradedOnto scale noHints hs
-    measured (L.Refused n) hs = refusedBy n
+    measured (L.By scale) hs = gradedOnto scale noRanked hs
+    measured (L.Refused n) hs = rankedRefused n
 
     by : WaitHints → RankedHints
-    by found = cond (W.isGoing found) (measured (scaleOf leg) (W.held found)) (refusedBy (found .refused))
+    by found = cond (W.isGoing found) (measured (scaleOf leg) (W.held found)) (rankedRefused (found .refused))

@@ -61,7 +61,7 @@ pub fn wait_hints(
         Examined::Refused(n) => RankedHints::refused_by(n),
         Examined::Fine => {
             if agent.is_brief() {
-                return RankedHints::refused_by(4);
+                return RankedHints::refused_by(refusals::NO_LINE);
             }
             among(p, agent, starts, numbers, times, xs, ys)
         }

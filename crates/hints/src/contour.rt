@@ -40,20 +40,20 @@ pub fn scale_of(agent: Leg) -> Scaling
     let last = agent.end;
     let way = last.place().minus(from);
     let long = norm::norm(way);
-    let Root::Of(length) = long else {
-        return Scaling::Refused(1);
+    let Root::Of(distance) = long else {
+        return Scaling::Refused(refusals::NUMBER);
     };
-    if length < 1e-8 {
-        return Scaling::Refused(4);
+    if distance < 1e-8 {
+        return Scaling::Refused(refusals::NO_LINE);
     }
     let start = agent.start.time;
     let end = agent.end.time;
     let lasting = end.since(start);
     let Span::Of(d) = lasting else {
-        return Scaling::Refused(7);
+        return Scaling::Refused(refusals::STRAYED);
     };
-    let direction = way.over(length);
-    let speed = length / d.as_secs_f64();
+    let direction = way.over(distance);
+    let speed = distance / d.as_secs_f64();
     Scaling::By(Scale {
         start,
         from,

@@ -13,12 +13,12 @@ ghost use mathlib.Core.Path.{_≡_};
 ghost use Rattle.obstacles.specs.Lent.{lentOf, obstaclesWith};
 ghost use Rattle.obstacles.specs.Boxes.{boxIn};
 ghost use Rattle.waits.specs.Hints.{held};
-ghost use Rattle.ranking.specs.Hints.{noHints};
+ghost use Rattle.ranking.specs.Hints.{noRanked};
 ghost use Rattle.hints.specs.Contour.{gradedOnto, rankedHints};
 
 // Hints in the order of finding, measured one by one and ranked.
 fn rank(scale: Scale, hints: WaitHints) -> RankedHints
-    ensures { λ r. ⌜ r ≡ gradedOnto scale noHints (held hints) ⌝ }
+    ensures { λ r. ⌜ r ≡ gradedOnto scale noRanked (held hints) ⌝ }
 {
     let n = hints.len();
     let mut list = RankedHints::none();
@@ -27,7 +27,7 @@ fn rank(scale: Scale, hints: WaitHints) -> RankedHints
         let hint = hints.all[i];
         let grade = contour::grade_of(scale, hint);
         let Grade::Of(ranked) = grade else {
-            return RankedHints::refused_by(7);
+            return RankedHints::refused_by(refusals::STRAYED);
         };
         list = list.with_ranked(ranked);
         i += 1;

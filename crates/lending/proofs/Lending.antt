@@ -23,12 +23,12 @@ use Rattle.lists.proofs.Listed.{length-listed}
 use Rattle.floats.specs.Compare.{isBetween}
 use Rattle.floats.proofs.Tests.{passed, is-true}
 use Rattle.floats.proofs.Preorder.{right-known}
-use Rattle.numbers.specs.Time.{inReach}
-use Rattle.numbers.proofs.Reach.{both}
+use Rattle.numbers.specs.Time.{isExact}
+use Rattle.numbers.proofs.Exact.{both}
 use Rattle.patterns.proofs.Words.{signed-back}
 use Rattle.waits.specs.Hint.{isPlaced}
 use Rattle.ranking.specs.Ranked.{isKnown, sorted}
-use Rattle.ranking.specs.Hints.{refusedBy, noHints, held, withLast, isRanked}
+use Rattle.ranking.specs.Hints.{rankedRefused, noRanked, rankedHeld, withLast, isRanked}
 use Rattle.lending.specs.Lent.{hintWords, allWords, hintIn, withAll, readHints, isFinite, isHint, areHints, lentHints}
 use Rattle.ranking.specs.declared.order.RankedHint.{RankedHint}
 use Rattle.ranking.specs.declared.ranked_hints.RankedHints.{RankedHints}
@@ -38,7 +38,7 @@ use Rattle.ranking.proofs.Held.{Holds, holds-none}
 
 last-holds : (list : RankedHints) (l : List RankedHint) (h : RankedHint) →
     Holds list l → length l < 64 → Holds (withLast list h) (l ++ h ∷ [])
-unfolding withLast held
+unfolding withLast rankedHeld
 last-holds list l h s few =
     let below : list .count < 64 = omega (arith, s .counted) in
     let inside : list .count < length (list .all) = omega (arith, s .long) in
@@ -65,19 +65,19 @@ all-holds list done (h ∷ l) s few =
 abbrev pub hintsIn : List ℕ → List RankedHint
 hintsIn words = listed (λ i. hintIn words (1 + 6 * i)) (getD words 0 0) 0
 
-few-hold : (words : List ℕ) → getD words 0 0 ≤ 64 → Holds (withAll noHints (hintsIn words)) (hintsIn words)
+few-hold : (words : List ℕ) → getD words 0 0 ≤ 64 → Holds (withAll noRanked (hintsIn words)) (hintsIn words)
 few-hold words h =
     let long = length-listed (λ i. hintIn words (1 + 6 * i)) (getD words 0 0) 0 in
-    all-holds noHints [] (hintsIn words) holds-none (omega arith)
+    all-holds noRanked [] (hintsIn words) holds-none (omega arith)
 
 -- Reading ends with them all, or with 2.
-read-ends : (words : List ℕ) → Holds (readHints words) (hintsIn words) ⊎ (readHints words ≡ refusedBy 2)
+read-ends : (words : List ℕ) → Holds (readHints words) (hintsIn words) ⊎ (readHints words ≡ rankedRefused 2)
 unfolding readHints
 read-ends words = by (leb (getD words 0 0) 64) (leb (1 + 6 * getD words 0 0) (length words)) refl
   where
     by : (a b : Bool) → leb (getD words 0 0) 64 ≡ a →
-        Holds (cond (a && b) (withAll noHints (hintsIn words)) (refusedBy 2)) (hintsIn words) ⊎
-        (cond (a && b) (withAll noHints (hintsIn words)) (refusedBy 2) ≡ refusedBy 2)
+        Holds (cond (a && b) (withAll noRanked (hintsIn words)) (rankedRefused 2)) (hintsIn words) ⊎
+        (cond (a && b) (withAll noRanked (hintsIn words)) (rankedRefused 2) ≡ rankedRefused 2)
     by true true e = inl (few-hold words (leb-true (getD words 0 0) 64 e))
     by true false e = inr refl
     by false b e = inr refl
@@ -91,7 +91,7 @@ between-known lo hi x e =
 
 hint-known : (obstacles : ℕ) (h : RankedHint) → isHint obstacles h ≡ true → isKnown h ≡ true
 unfolding isHint isFinite
-hint-known obstacles h e = between-known _ _ (h .reach) (both _ _ (both (inReach (h .contour .0)) _ e .1) .0)
+hint-known obstacles h e = between-known _ _ (h .reach) (both _ _ (both (isExact (h .contour .0)) _ e .1) .0)
 
 every-known : (obstacles : ℕ) (l : List RankedHint) → every (isHint obstacles) l ≡ true → every isKnown l ≡ true
 unfolding every
@@ -106,13 +106,13 @@ unless-true false b e = (refl, e)
 
 -- A list that both tests pass is handed on.
 handed-on : (list : RankedHints) (tests : Bool) →
-    cond (eqb (list .refused) 0) (cond tests list (refusedBy 1)) list .refused ≡ 0 →
-    (cond (eqb (list .refused) 0) (cond tests list (refusedBy 1)) list ≡ list) × (tests ≡ true)
-unfolding refusedBy
+    cond (eqb (list .refused) 0) (cond tests list (rankedRefused 1)) list .refused ≡ 0 →
+    (cond (eqb (list .refused) 0) (cond tests list (rankedRefused 1)) list ≡ list) × (tests ≡ true)
+unfolding rankedRefused
 handed-on list tests = by (eqb (list .refused) 0) tests refl
   where
-    by : (a b : Bool) → eqb (list .refused) 0 ≡ a → cond a (cond b list (refusedBy 1)) list .refused ≡ 0 →
-        (cond a (cond b list (refusedBy 1)) list ≡ list) × (b ≡ true)
+    by : (a b : Bool) → eqb (list .refused) 0 ≡ a → cond a (cond b list (rankedRefused 1)) list .refused ≡ 0 →
+        (cond a (cond b list (rankedRefused 1)) list ≡ list) × (b ≡ true)
     by true true e z = (refl, refl)
     by true false e z = absurd (let none : ⊥ = omega arith in none)
     by false b e z = absurd (eqb-false (list .refused) 0 e z)
@@ -123,13 +123,13 @@ handed-on list tests = by (eqb (list .refused) 0) tests refl
 -- (RULES 11.9, 11.10).
 pub record Taken (obstacles : ℕ) (list : RankedHints) : Type 0 where
   pub few : list .count ≤ 64
-  pub counted : length (held list) ≡ list .count
-  pub in-table : every (isHint obstacles) (held list) ≡ true
-  pub all-known : every isKnown (held list) ≡ true
-  pub in-order : sorted (held list) ≡ true
+  pub counted : length (rankedHeld list) ≡ list .count
+  pub in-table : every (isHint obstacles) (rankedHeld list) ≡ true
+  pub all-known : every isKnown (rankedHeld list) ≡ true
+  pub in-order : sorted (rankedHeld list) ≡ true
 
 read-holds : (words : List ℕ) → readHints words .refused ≡ 0 → Holds (readHints words) (hintsIn words)
-unfolding refusedBy
+unfolding rankedRefused
 read-holds words z = ⊎-elim (λ s. s) (λ e. absurd (eqb-false 2 0 refl (sym (ap (λ list. list .refused) e) ∙ z))) (read-ends words)
 
 from-read : (obstacles : ℕ) (words : List ℕ) → lentHints obstacles words .refused ≡ 0 →
@@ -141,10 +141,10 @@ from-read obstacles words =
 
 -- They are those that stand in the words, in their order (RULES 11.9).
 pub lent-held : (obstacles : ℕ) (words : List ℕ) → lentHints obstacles words .refused ≡ 0 →
-    held (lentHints obstacles words) ≡ hintsIn words
+    rankedHeld (lentHints obstacles words) ≡ hintsIn words
 lent-held obstacles words z =
     let same = from-read obstacles words z .0 in
-    ap held same ∙ read-holds words (sym (ap (λ list. list .refused) same) ∙ z) .these
+    ap rankedHeld same ∙ read-holds words (sym (ap (λ list. list .refused) same) ∙ z) .these
 
 read-taken : (obstacles : ℕ) (words : List ℕ) →
     readHints words .refused ≡ 0 → (areHints obstacles (readHints words) && isRanked (readHints words)) ≡ true →
@@ -154,13 +154,13 @@ read-taken obstacles words z passes =
     let list = readHints words in
     let s = read-holds words z in
     let tests = both (areHints obstacles list) (isRanked list) passes in
-    let hints = unless-true (ltb 64 (list .count)) (every (isHint obstacles) (held list)) (tests .0) in
+    let hints = unless-true (ltb 64 (list .count)) (every (isHint obstacles) (rankedHeld list)) (tests .0) in
     record {
       few = ltb-false 64 (list .count) (hints .0);
       counted = ap length (s .these) ∙ sym (s .counted);
       in-table = hints .1;
-      all-known = every-known obstacles (held list) (hints .1);
-      in-order = unless-true (ltb 64 (list .count)) (sorted (held list)) (tests .1) .1;
+      all-known = every-known obstacles (rankedHeld list) (hints .1);
+      in-order = unless-true (ltb 64 (list .count)) (sorted (rankedHeld list)) (tests .1) .1;
     }
 
 -- What is known of lent hints that are not refused.
@@ -175,12 +175,12 @@ lent-taken obstacles words z =
 pub lent-refusal : (obstacles : ℕ) (words : List ℕ) →
     let n = lentHints obstacles words .refused in
     (n ≡ 0) ⊎ ((n ≡ 1) ⊎ (n ≡ 2))
-unfolding lentHints refusedBy
+unfolding lentHints rankedRefused
 lent-refusal obstacles words =
     by (eqb (readHints words .refused) 0) (areHints obstacles (readHints words) && isRanked (readHints words)) (read-ends words)
   where
-    by : (a b : Bool) → Holds (readHints words) (hintsIn words) ⊎ (readHints words ≡ refusedBy 2) →
-        let n = cond a (cond b (readHints words) (refusedBy 1)) (readHints words) .refused in
+    by : (a b : Bool) → Holds (readHints words) (hintsIn words) ⊎ (readHints words ≡ rankedRefused 2) →
+        let n = cond a (cond b (readHints words) (rankedRefused 1)) (readHints words) .refused in
         (n ≡ 0) ⊎ ((n ≡ 1) ⊎ (n ≡ 2))
     by true false ends = inr (inl refl)
     by true true (inl s) = inl (s .unrefused)
@@ -195,8 +195,8 @@ abbrev pub isDouble : RankedHint → Bool
 isDouble h =
     fits binary64 (h .reach) && (fits binary64 (h .hint .place .x) && fits binary64 (h .hint .place .y))
 
-reach-fits : (z : ℤ) → inReach z ≡ true → SFits w64 z
-unfolding inReach
+reach-fits : (z : ℤ) → isExact z ≡ true → SFits w64 z
+unfolding isExact
 reach-fits (pos n) e = record { sfits = omega (arith, leb-true n (2 ^ 53) e) }
 reach-fits (negsuc n) e = record { sfits = omega (arith, leb-true (suc n) (2 ^ 53) e) }
 
@@ -205,9 +205,9 @@ hint-back : (obstacles : ℕ) (h : RankedHint) (tail : List ℕ) →
     isHint obstacles h ≡ true → isDouble h ≡ true → hintIn (hintWords h ++ tail) 0 ≡ h
 unfolding hintIn hintWords isHint
 hint-back obstacles h tail e d =
-    let contour = both (inReach (h .contour .0)) _ e in
+    let contour = both (isExact (h .contour .0)) _ e in
     let placed = both (isPlaced (h .hint .place)) _ (both (isFinite (h .reach)) _ (contour .1) .1) in
-    let until = both (inReach (h .hint .until .0)) _ (placed .1) in
+    let until = both (isExact (h .hint .until .0)) _ (placed .1) in
     let reach = both (fits binary64 (h .reach)) _ d in
     let place = both (fits binary64 (h .hint .place .x)) _ (reach .1) in
     rw (
@@ -276,7 +276,7 @@ read-again obstacles l rest few e d =
     let inside : 1 + 6 * length l ≤ length words = omega (arith, length-append (allWords l) rest, length-words l) in
     let same : hintsIn words ≡ l = hints-back obstacles words (length l ∷ []) l rest 0 refl refl e d in
     rw (le-leb (length l) 64 few, le-leb (1 + 6 * length l) (length words) inside)
-    (subst (Holds (withAll noHints (hintsIn words))) same (few-hold words few))
+    (subst (Holds (withAll noRanked (hintsIn words))) same (few-hold words few))
 
 -- Where they are ranked, too, a call that is lent these words takes them (RULES 11.10).
 pub lent-again : (obstacles : ℕ) (l : List RankedHint) (rest : List ℕ) →

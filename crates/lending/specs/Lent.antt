@@ -7,13 +7,14 @@ use lib.Dec.{eqb, leb, ltb}
 use lib.ListN.{length, getD}
 use lib.Ieee
 use lib.Ieee.{Float, binary64, toBits}
+use Rattle.refusals.specs.Names.{NUMBER, SHAPE}
 use Rattle.lists.specs.Listed.{listed, every}
 use Rattle.lists.specs.Outcome.{Outcome, Gives, Refuses}
 use Rattle.floats.specs.Compare.{isBetween}
-use Rattle.numbers.specs.Time.{inReach}
+use Rattle.numbers.specs.Time.{isExact}
 use Rattle.patterns.specs.Word.{wordOf, signedOf}
 use Rattle.waits.specs.Hint.{isPlaced}
-use Rattle.ranking.specs.Hints.{refusedBy, noHints, held, withLast, isRanked}
+use Rattle.ranking.specs.Hints.{rankedRefused, noRanked, rankedHeld, withLast, isRanked}
 use Rattle.ranking.specs.declared.order.RankedHint.{RankedHint}
 use Rattle.ranking.specs.declared.ranked_hints.RankedHints.{RankedHints}
 
@@ -33,7 +34,7 @@ allWords (h ∷ l) = hintWords h ++ allWords l
 -- The number and the words of an answer: how many hints there are, and they.
 unfoldable pub hintsOutcome : RankedHints → Outcome
 hintsOutcome list =
-    cond (eqb (list .refused) 0) (Gives (length (held list) ∷ allWords (held list))) (Refuses (list .refused))
+    cond (eqb (list .refused) 0) (Gives (length (rankedHeld list) ∷ allWords (rankedHeld list))) (Refuses (list .refused))
 
 -- The hint that stands in the six words from `at` on.
 unfoldable pub hintIn : List ℕ → ℕ → RankedHint
@@ -57,7 +58,7 @@ withAll list (h ∷ l) = withAll (withLast list h) l
 unfoldable pub readHints : List ℕ → RankedHints
 readHints words =
     let n = getD words 0 0 in
-    cond (leb n 64 && leb (1 + 6 * n) (length words)) (withAll noHints (listed (λ i. hintIn words (1 + 6 * i)) n 0)) (refusedBy 2)
+    cond (leb n 64 && leb (1 + 6 * n) (length words)) (withAll noRanked (listed (λ i. hintIn words (1 + 6 * i)) n 0)) (rankedRefused SHAPE)
 
 -- ---- The table's row.
 
@@ -68,17 +69,17 @@ isFinite = let most = Ieee.ofBits binary64 0x7fef_ffff_ffff_ffff in isBetween (I
 -- Contour, until and place within row 7, the reach finite, the obstacle below the count (RULES 11.10).
 unfoldable pub isHint : ℕ → RankedHint → Bool
 isHint obstacles h =
-    inReach (h .contour .0) &&
+    isExact (h .contour .0) &&
     (isFinite (h .reach) &&
-    (isPlaced (h .hint .place) && (inReach (h .hint .until .0) && ltb (h .hint .obstacle) obstacles)))
+    (isPlaced (h .hint .place) && (isExact (h .hint .until .0) && ltb (h .hint .obstacle) obstacles)))
 
 unfoldable pub areHints : ℕ → RankedHints → Bool
-areHints obstacles list = cond (ltb 64 (list .count)) false (every (isHint obstacles) (held list))
+areHints obstacles list = cond (ltb 64 (list .count)) false (every (isHint obstacles) (rankedHeld list))
 
 -- Hints that a call is lent: 2 for their count, then 1 for their numbers and for hints that are not ranked (RULES 11.9, 11.10).
 unfoldable pub lentHints : ℕ → List ℕ → RankedHints
 lentHints obstacles words =
     let list = readHints words in
     cond (eqb (list .refused) 0)
-    (cond (areHints obstacles list && isRanked list) list (refusedBy 1))
+    (cond (areHints obstacles list && isRanked list) list (rankedRefused NUMBER))
     list

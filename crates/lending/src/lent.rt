@@ -49,11 +49,11 @@ fn read(words: &[u64]) -> RankedHints
 {
     let n = word_at(words, 0);
     if 64 < n {
-        return RankedHints::refused_by(2);
+        return RankedHints::refused_by(refusals::SHAPE);
     }
     let count = n as usize;
     if words.len() < 1 + 6 * count {
-        return RankedHints::refused_by(2);
+        return RankedHints::refused_by(refusals::SHAPE);
     }
     let mut list = RankedHints::none();
     let mut i = 0;
@@ -75,7 +75,7 @@ fn is_hint(h: RankedHint, obstacles: usize) -> bool
     ensures { λ r. ⌜ r ≡ isHint obstacles h ⌝ }
 {
     let hint = h.hint;
-    if !h.contour.is_in_reach() {
+    if !h.contour.is_exact() {
         return false;
     }
     if !is_finite(h.reach) {
@@ -84,7 +84,7 @@ fn is_hint(h: RankedHint, obstacles: usize) -> bool
     if !hint::is_placed(hint.place) {
         return false;
     }
-    if !hint.until.is_in_reach() {
+    if !hint.until.is_exact() {
         return false;
     }
     hint.obstacle < obstacles
@@ -117,10 +117,10 @@ pub fn lent_hints(words: &[u64], obstacles: usize) -> RankedHints
         return list;
     }
     if !are_hints(list, obstacles) {
-        return RankedHints::refused_by(1);
+        return RankedHints::refused_by(refusals::NUMBER);
     }
     if !list.is_ranked() {
-        return RankedHints::refused_by(1);
+        return RankedHints::refused_by(refusals::NUMBER);
     }
     list
 }

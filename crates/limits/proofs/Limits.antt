@@ -10,21 +10,22 @@ use lib.IntN.{pos, natAbs}
 use lib.Signed.{ltZ, leZ, _≤ℤ_, leZ-yes, ltZ-no}
 use lib.Ieee
 use lib.Ieee.{Float, fin, binary64}
-use Rattle.floats.specs.Order.{_≼_, Finite}
-use Rattle.floats.specs.Size.{nought, Within}
+use Rattle.floats.proofs.Relations.{_≼_, Finite}
+use Rattle.floats.specs.Constants.{nought, thousandth}
+use Rattle.floats.proofs.Magnitude.{Within}
 use Rattle.floats.specs.Compare.{isBetween}
-use Rattle.floats.specs.Domain.{farthest, widest}
+use Rattle.floats.proofs.Largest.{farthest, widest}
 use Rattle.floats.proofs.Tests.{passed, is-true}
 use Rattle.floats.proofs.Preorder.{le-trans}
 use Rattle.floats.proofs.Signs.{square-not-below}
 use Rattle.floats.proofs.Bounds.{within-of-bounds, within-of-upper, within-lower, within-upper, within-le, within-known}
 use Rattle.floats.proofs.Bounds.{within-finite, within-add, within-mul}
 use Rattle.floats.proofs.Larger.{larger-within}
-use Rattle.numbers.specs.Time.{inReach}
+use Rattle.numbers.specs.Time.{isExact}
 use Rattle.numbers.specs.declared.time.TimePoint.{TimePoint}
 use Rattle.numbers.proofs.Integers.{size-at-most}
-use Rattle.numbers.proofs.Reach.{both}
-use Rattle.shapes.specs.Distance.{leastDistance, criticalDistance, criticalDistanceSquared}
+use Rattle.numbers.proofs.Exact.{both}
+use Rattle.shapes.specs.Distance.{criticalDistance, criticalDistanceSquared}
 use Rattle.limits.specs.Domain.{isTime, isCoordinate, isRadius, isLimit, isSpeed, isWaypoint, isLeg, isProfile}
 use Rattle.shapes.specs.declared.profile.CircularProfile.{CircularProfile}
 use Rattle.shapes.specs.declared.waypoint.Leg.{Leg}
@@ -68,9 +69,9 @@ time-not-below t e = ltZ-no (passed (time-told t e .0))
 pub time-at-most : (t : TimePoint) → isTime t ≡ true → t .0 ≤ℤ pos (10 ^ 15)
 time-at-most t e = leZ-yes (passed (time-told t e .1))
 
-pub time-in-reach : (t : TimePoint) → isTime t ≡ true → inReach (t .0) ≡ true
-unfolding inReach
-time-in-reach t e =
+pub time-exact : (t : TimePoint) → isTime t ≡ true → isExact (t .0) ≡ true
+unfolding isExact
+time-exact t e =
     le-leb (natAbs (t .0)) (2 ^ 53) (omega (arith, size-at-most (t .0) (10 ^ 15) (time-not-below t e) (time-at-most t e)))
 
 -- ---- Doubles.
@@ -148,7 +149,7 @@ twoHundred = Ieee.ofInt binary64 (pos 200)
 critical-within : (p q : CircularProfile) → isProfile p ≡ true → isProfile q ≡ true → Within twoHundred (criticalDistance p q)
 unfolding criticalDistance Ieee.ofInt Ieee.add
 critical-within p q hp hq =
-    larger-within (Ieee.add binary64 (p .footprint) (q .footprint)) leastDistance
+    larger-within (Ieee.add binary64 (p .footprint) (q .footprint)) thousandth
     (within-add binary64
     (radius-within (p .footprint) (profile-footprint p hp))
     (radius-within (q .footprint) (profile-footprint q hq))

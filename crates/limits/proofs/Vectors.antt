@@ -5,13 +5,14 @@ use mathlib.Core.Bool.{true}
 use lib.IntN.{pos}
 use lib.Ieee
 use lib.Ieee.{Float, binary64, add, mul, div, le}
-use Rattle.floats.specs.Order.{_≼_, Finite, Positive}
-use Rattle.floats.specs.Size.{nought, Within}
+use Rattle.floats.proofs.Relations.{_≼_, Finite, Positive}
+use Rattle.floats.specs.Constants.{nought}
+use Rattle.floats.proofs.Magnitude.{Within}
 use Rattle.floats.proofs.Bounds.{within-known, within-le, within-add, within-sub, within-mul, within-div-above}
 use Rattle.floats.proofs.Meeting.{within-dot, dot-not-below}
 use Rattle.numbers.specs.Time.{secondsOf}
-use Rattle.numbers.proofs.Reach.{both}
-use Rattle.shapes.specs.Vector.{sum, difference, scaled, divided, dotOf}
+use Rattle.numbers.proofs.Exact.{both}
+use Rattle.shapes.specs.Vector.{vectorSum, vectorDifference, scaled, divided, dotOf}
 use Rattle.limits.specs.Domain.{isCoordinate, isPlace, isSpeed}
 use Rattle.shapes.specs.declared.vector.Vector.{Vector}
 use Rattle.limits.proofs.Limits.{tenThousand, swiftest, topSpeed, coordinate-at-most, speed-within, within-speed}
@@ -28,8 +29,8 @@ spans-le d h k = record { x-within = within-le d (h .x-within) k; y-within = wit
 -- ---- The operations (RULES, Words and signs).
 
 -- A sum and a difference, within c + d.
-pub spans-sum : {c d : Float} {v w : Vector} → Spans c v → Spans d w → Finite c → Finite d → Spans (add binary64 c d) (sum v w)
-unfolding sum
+pub spans-sum : {c d : Float} {v w : Vector} → Spans c v → Spans d w → Finite c → Finite d → Spans (add binary64 c d) (vectorSum v w)
+unfolding vectorSum
 spans-sum h k C D =
     record {
       x-within = within-add binary64 (h .x-within) (k .x-within) C D;
@@ -37,8 +38,8 @@ spans-sum h k C D =
     }
 
 pub spans-difference : {c d : Float} {v w : Vector} →
-    Spans c v → Spans d w → Finite c → Finite d → Spans (add binary64 c d) (difference v w)
-unfolding difference
+    Spans c v → Spans d w → Finite c → Finite d → Spans (add binary64 c d) (vectorDifference v w)
+unfolding vectorDifference
 spans-difference h k C D =
     record {
       x-within = within-sub binary64 (h .x-within) (k .x-within) C D;
@@ -96,7 +97,7 @@ swift-spans {v} h = record { x-within = speed-within (v .x) (h .x-speed); y-with
 
 -- From p to q in 1 ns or more: 2 * 10^4 m over 1e-9 s is below 10^14 m/s (RULES 2.4, 3.8).
 pub velocity-swift : (p q : Vector) (dt : Float) →
-    isPlace p ≡ true → isPlace q ≡ true → secondsOf (pos 1) ≼ dt → Finite dt → Swift (divided (difference q p) dt)
+    isPlace p ≡ true → isPlace q ≡ true → secondsOf (pos 1) ≼ dt → Finite dt → Swift (divided (vectorDifference q p) dt)
 unfolding secondsOf Ieee.ofInt add div
 velocity-swift p q dt hp hq least f =
     let way = spans-difference (place-spans q hq) (place-spans p hp) tt tt in

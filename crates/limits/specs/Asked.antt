@@ -3,6 +3,7 @@
 use mathlib.Core.Bool.{cond, _&&_}
 use mathlib.Core.List.{[], _∷_}
 use lib.Ieee.{Float, binary64, toBits}
+use Rattle.refusals.specs.Names.{NUMBER, BACKWARD}
 use Rattle.lists.specs.Outcome.{Outcome, Gives, Refuses}
 use Rattle.shapes.specs.Box.{boxOfLeg, overlap}
 use Rattle.shapes.specs.Leg.{isBackward}
@@ -24,7 +25,7 @@ askedDistance p q distance = cond (isProfile p && isProfile q) (D.Of distance) D
 -- The box of a leg of the agent's: 1 for the numbers, 3 where it runs backward.
 unfoldable pub askedBox : CircularProfile → Leg → Boxed
 askedBox p leg =
-    cond (isProfile p && isLeg leg) (cond (isBackward leg) (B.Refused 3) (B.Of (boxOfLeg (p .footprint) leg))) (B.Refused 1)
+    cond (isProfile p && isLeg leg) (cond (isBackward leg) (B.Refused BACKWARD) (B.Of (boxOfLeg (p .footprint) leg))) (B.Refused NUMBER)
 
 -- Whether two boxes overlap: 1 for their bounds.
 unfoldable pub askedOverlap : BoundingBox → BoundingBox → Overlap
@@ -33,7 +34,7 @@ askedOverlap p q = cond (isBox p && isBox q) (cond (overlap p q) O.Together O.Ap
 -- The number and the words of each case (RULES 4.1).
 abbrev pub distanceOutcome : Distance → Outcome
 distanceOutcome (D.Of d) = Gives (toBits binary64 d ∷ [])
-distanceOutcome D.Refused = Refuses 1
+distanceOutcome D.Refused = Refuses NUMBER
 
 abbrev pub boxOutcome : Boxed → Outcome
 boxOutcome (B.Of b) =
@@ -43,4 +44,4 @@ boxOutcome (B.Refused n) = Refuses n
 abbrev pub overlapOutcome : Overlap → Outcome
 overlapOutcome O.Apart = Gives (0 ∷ [])
 overlapOutcome O.Together = Gives (1 ∷ [])
-overlapOutcome O.Refused = Refuses 1
+overlapOutcome O.Refused = Refuses NUMBER

@@ -6,7 +6,7 @@ use lib.IntN.{ℤ, pos}
 use lib.Signed.{ltZ, leZ}
 use lib.Ieee
 use lib.Ieee.{Float, binary64}
-use Rattle.floats.specs.Size.{nought}
+use Rattle.floats.specs.Constants.{nought}
 use Rattle.floats.specs.Compare.{isBetween}
 use Rattle.numbers.specs.declared.time.TimePoint.{TimePoint}
 use Rattle.shapes.specs.declared.bounding_box.BoundingBox.{BoundingBox}
@@ -16,8 +16,8 @@ use Rattle.shapes.specs.declared.vector.Vector.{Vector}
 use Rattle.shapes.specs.declared.waypoint.Waypoint.{Waypoint}
 
 -- A whole number as a double.
-abbrev whole : ℤ → Float
-whole = Ieee.ofInt binary64
+abbrev wholeNumber : ℤ → Float
+wholeNumber = Ieee.ofInt binary64
 
 -- 0 to 10^15 ns (RULES 3.1).
 unfoldable pub isTime : TimePoint → Bool
@@ -25,23 +25,23 @@ isTime t = not (ltZ (t .0) (pos 0)) && leZ (t .0) (pos (10 ^ 15))
 
 -- -10,000 to 10,000 m (RULES 3.2).
 unfoldable pub isCoordinate : Float → Bool
-isCoordinate = isBetween (Ieee.neg (whole (pos 10000))) (whole (pos 10000))
+isCoordinate = isBetween (Ieee.neg (wholeNumber (pos 10000))) (wholeNumber (pos 10000))
 
 -- A footprint or a follow buffer: 0 to 100 m (RULES 3.3).
 unfoldable pub isRadius : Float → Bool
-isRadius = isBetween nought (whole (pos 100))
+isRadius = isBetween nought (wholeNumber (pos 100))
 
 -- A conflict distance squared: 0 to 1,000,000 (RULES 3.4).
 unfoldable pub isLimit : Float → Bool
-isLimit = isBetween nought (whole (pos 1000000))
+isLimit = isBetween nought (wholeNumber (pos 1000000))
 
 -- A bound of a box: -20,000 to 20,000 m (RULES 3.7).
 unfoldable pub isBound : Float → Bool
-isBound = isBetween (Ieee.neg (whole (pos 20000))) (whole (pos 20000))
+isBound = isBetween (Ieee.neg (wholeNumber (pos 20000))) (wholeNumber (pos 20000))
 
 -- A coordinate of a velocity: at most 10^14 m/s in size (RULES 3.8, 3.12).
 unfoldable pub isSpeed : Float → Bool
-isSpeed = isBetween (Ieee.neg (whole (pos (10 ^ 14)))) (whole (pos (10 ^ 14)))
+isSpeed = isBetween (Ieee.neg (wholeNumber (pos (10 ^ 14)))) (wholeNumber (pos (10 ^ 14)))
 
 -- A place, a waypoint, a leg, a profile and a box, of such numbers.
 unfoldable pub isPlace : Vector → Bool

@@ -69,13 +69,13 @@ pub fn box_of_leg(p: CircularProfile, leg: Leg) -> Boxed
     ensures { λ r. ⌜ r ≡ askedBox p leg ⌝ }
 {
     if !domain::is_profile(p) {
-        return Boxed::Refused(1);
+        return Boxed::Refused(refusals::NUMBER);
     }
     if !domain::is_leg(leg) {
-        return Boxed::Refused(1);
+        return Boxed::Refused(refusals::NUMBER);
     }
     if leg.is_backward() {
-        return Boxed::Refused(3);
+        return Boxed::Refused(refusals::BACKWARD);
     }
     Boxed::Of(BoundingBox::for_line(p.footprint, leg))
 }

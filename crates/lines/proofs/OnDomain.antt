@@ -10,11 +10,13 @@ use lib.Signed.{ltZ, _≤ℤ_, leZ-yes, ltZ-yes, ≤ℤ-refl, clashℤ}
 use lib.Ieee
 use lib.Ieee.{Float, fin, binary64, add, mul, div, lt, le, isNan, ofBits}
 use lib.Ieee.Fits.{add-fits}
-use Rattle.floats.specs.Order.{_≼_, _≺_, Finite}
-use Rattle.floats.specs.Size.{nought, Within}
+use Rattle.floats.proofs.Relations.{_≼_, _≺_, Finite}
+use Rattle.floats.specs.Constants.{nought}
+use Rattle.floats.proofs.Magnitude.{Within}
 use Rattle.floats.specs.Compare.{smallerOf}
 use Rattle.floats.specs.Quadratic.{radicand}
-use Rattle.floats.specs.Domain.{widest, still}
+use Rattle.floats.proofs.Largest.{widest}
+use Rattle.floats.specs.Constants.{hundredMillionth}
 use Rattle.floats.proofs.Tests.{passed, failed}
 use Rattle.floats.proofs.Strict.{lt→le, not-lt→le}
 use Rattle.floats.proofs.NotANumber.{finite-known}
@@ -32,7 +34,7 @@ use Rattle.root.proofs.Meets.{meets}
 use Rattle.root.proofs.Size.{Fine, root-fine}
 use Rattle.shapes.specs.Leg.{placeOf, isRising}
 use Rattle.limits.specs.Domain.{isTime, isPlace, isLimit, isWaypoint, isLeg}
-use Rattle.shapes.specs.Vector.{difference, divided, dotOf}
+use Rattle.shapes.specs.Vector.{vectorDifference, divided, dotOf}
 use Rattle.shapes.specs.declared.vector.Vector.{Vector}
 use Rattle.shapes.specs.declared.waypoint.Leg.{Leg}
 use Rattle.shapes.specs.declared.waypoint.Waypoint.{Waypoint}
@@ -110,7 +112,7 @@ leg-runs leg e rising =
         from = placeOf (leg .start);
         to = placeOf (leg .end);
         seconds = secondsOf (d .0);
-        velocity = divided (difference (placeOf (leg .end)) (placeOf (leg .start))) (secondsOf (d .0));
+        velocity = divided (vectorDifference (placeOf (leg .end)) (placeOf (leg .start))) (secondsOf (d .0));
       };
       ran = rw given;
       steady = record {
@@ -162,18 +164,18 @@ abbrev longestWay : Float
 longestWay = add binary64 L.tenThousand L.tenThousand
 
 module _ (p q : Vector) (hp : isPlace p ≡ true) (hq : isPlace q ≡ true) where
-  way-spans : Spans longestWay (difference q p)
+  way-spans : Spans longestWay (vectorDifference q p)
   unfolding Ieee.ofInt
   way-spans = P.spans-difference (P.place-spans q hq) (P.place-spans p hp) tt tt
 
-  way-normed : Normed (difference q p)
+  way-normed : Normed (vectorDifference q p)
   unfolding Ieee.ofInt add mul
-  way-normed = norm-given (difference q p) way-spans tt tt tt
+  way-normed = norm-given (vectorDifference q p) way-spans tt tt tt
 
-  direction-spans : {n : Float} → Fine n → still ≺ n → Spans steepest (divided (difference q p) n)
+  direction-spans : {n : Float} → Fine n → hundredMillionth ≺ n → Spans steepest (divided (vectorDifference q p) n)
   unfolding Ieee.ofInt add div ofBits
   direction-spans {n} f above =
-      P.spans-le steepest (P.spans-divided still n way-spans (lt→le still n above) (f .is-finite) tt tt) (unfold le in tt)
+      P.spans-le steepest (P.spans-divided hundredMillionth n way-spans (lt→le hundredMillionth n above) (f .is-finite) tt tt) (unfold le in tt)
 
 -- Never a refusal, and a direction within the bound.
 abbrev pub Directed : Direction → Type 0
@@ -182,14 +184,14 @@ Directed D.Missing = Unit
 Directed D.Refused = ⊥
 
 -- Of a leg in motion (RULES 2.14, 10.10).
-pub direction-given : (run : Run) → Steady run → Directed (directionOf (difference (run .to) (run .from)))
+pub direction-given : (run : Run) → Steady run → Directed (directionOf (vectorDifference (run .to) (run .from)))
 unfolding directionOf
 direction-given run h =
     let n = way-normed (run .from) (run .to) (h .from-place) (h .to-place) in
     rw (n .given) (by (n .fine) _ refl)
   where
-    by : {n : Float} → Fine n → (b : Bool) → lt still n ≡ b →
-        Directed (cond b (D.Along (divided (difference (run .to) (run .from)) n)) D.Missing)
+    by : {n : Float} → Fine n → (b : Bool) → lt hundredMillionth n ≡ b →
+        Directed (cond b (D.Along (divided (vectorDifference (run .to) (run .from)) n)) D.Missing)
     by f true e = direction-spans (run .from) (run .to) (h .from-place) (h .to-place) f (passed e)
     by f false e = tt
 
@@ -200,8 +202,8 @@ pub record Charted (leg : Leg) (c : Course) : Type 0 where
   pub ran : runOf leg ≡ N.Of (c .run)
   pub steady : Steady (c .run)
   pub direction-within : Spans steepest (c .direction)
-  pub long : still ≺ c .length
-  pub length-fine : Fine (c .length)
+  pub long : hundredMillionth ≺ c .distance
+  pub length-fine : Fine (c .distance)
   pub speed-fine : Fine (c .speed)
 
 -- Never a refusal, and a course such a one.
@@ -231,9 +233,9 @@ course-given leg e rising =
     to-place : isPlace to ≡ true
     to-place = waypoint-place (leg .end) (L.leg-end leg e)
 
-    by : (n : Normed (difference to from)) (r : Runs leg) (s : Normed (r .run .velocity)) (b : Bool) → lt still (n .length) ≡ b →
-        let u = divided (difference to from) (n .length) in
-        Headed leg (cond b (H.Along (record { run = r .run; direction = u; length = n .length; speed = s .length })) H.Missing)
+    by : (n : Normed (vectorDifference to from)) (r : Runs leg) (s : Normed (r .run .velocity)) (b : Bool) → lt hundredMillionth (n .length) ≡ b →
+        let u = divided (vectorDifference to from) (n .length) in
+        Headed leg (cond b (H.Along (record { run = r .run; direction = u; distance = n .length; speed = s .length })) H.Missing)
     by n r s true f =
         record {
           ran = r .ran;
@@ -315,13 +317,13 @@ pub near-line-answered : (q r u p0 pf : Vector) (dt limit : Float) →
     secondsOf (pos 1) ≼ dt → Finite dt → isLimit limit ≡ true → Answered (nearLine q r u p0 pf dt limit)
 unfolding nearLine
 near-line-answered q r u p0 pf dt limit hq hr hu hp hpf least f hl =
-    let v = divided (difference pf p0) dt in
+    let v = divided (vectorDifference pf p0) dt in
     let k = acrossQuadratic q u p0 v limit in
     let d = radicand (k .a) (k .b) (k .c) in
     let fast = P.velocity-swift p0 pf dt hp hpf least f in
     let finite =
     across-finite (P.place-spans q hq) hu (P.place-spans p0 hp) (P.swift-spans fast) (L.limit-within limit hl) in
-    either (lt (k .a) still) _ _ (λ e. tt) (λ e.
+    either (lt (k .a) hundredMillionth) _ _ (λ e. tt) (λ e.
     either (lt d nought) _ _ (λ g. tt) (λ g.
     let root = root-given d finite (not-lt→le d nought (finite-known d finite) (unfold isNan in tt) (failed g)) in
     rw (root .1) (spell-answered r u p0 v dt limit _ _ (stationary-answered r p0 v limit hr hp fast hl))))

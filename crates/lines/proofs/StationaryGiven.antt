@@ -4,20 +4,22 @@ use mathlib.Core.Path.{_≡_, refl, subst}
 use mathlib.Core.Logic.{_↔_}
 use mathlib.Core.Bool.{Bool, true, false, _&&_, cond, true≢false}
 use lib.Ieee.{Float, binary64, add, mul, le}
-use Rattle.floats.specs.Order.{Finite}
-use Rattle.floats.specs.Size.{nought, Within}
+use Rattle.floats.proofs.Relations.{Finite}
+use Rattle.floats.specs.Constants.{nought}
+use Rattle.floats.proofs.Magnitude.{Within}
 use Rattle.floats.specs.Quadratic.{two, radicand, lower, upper}
-use Rattle.floats.specs.Domain.{farthest, widest, still}
+use Rattle.floats.proofs.Largest.{farthest, widest}
+use Rattle.floats.specs.Constants.{hundredMillionth}
 use Rattle.floats.proofs.Tests.{passed}
 use Rattle.floats.proofs.Bounds.{within-finite, within-mul, within-sub}
 use Rattle.floats.proofs.Meeting.{within-dot, two-within, four-within, finite-roots-in-order}
-use Rattle.numbers.proofs.Reach.{both}
-use Rattle.root.specs.Root.{rootOf}
+use Rattle.numbers.proofs.Exact.{both}
+use Rattle.root.specs.Root.{rootOf, withRoot}
 use Rattle.root.proofs.Given.{root-given}
 use Rattle.limits.specs.Domain.{isCoordinate, isPlace, isSpeed, isLimit}
 use Rattle.shapes.specs.declared.vector.Vector.{Vector}
 use Rattle.limits.proofs.Limits.{swiftest, coordinate-within, speed-within, limit-within}
-use Rattle.lines.specs.Stationary.{stationaryQuadratic, rooted, stationaryProximity}
+use Rattle.lines.specs.Stationary.{stationaryQuadratic, stationaryProximity}
 use Rattle.lines.specs.Asked.{isStay, askedStationary}
 use Rattle.motions.specs.declared.quadratic.Quadratic.{Quadratic}
 use Rattle.lines.specs.declared.stationary.Stay.{Stay}
@@ -69,12 +71,12 @@ stay-tame r p0 v limit e =
     (speed-within (v .x) (fast-x .0)) (speed-within (v .y) (fast-y .0)) (limit-within limit (fast-y .1))
 
 module _ (q : Quadratic) (h : Tame q) where
-  tame-ordered : (b : Bool) → (le still (q .a) && le nought (radicand (q .a) (q .b) (q .c))) ≡ b →
-      Ordered (cond b (rooted (rootOf (radicand (q .a) (q .b) (q .c))) (λ s.
+  tame-ordered : (b : Bool) → (le hundredMillionth (q .a) && le nought (radicand (q .a) (q .b) (q .c))) ≡ b →
+      Ordered (cond b (withRoot Refused (rootOf (radicand (q .a) (q .b) (q .c))) (λ s.
       Between (lower (q .a) (q .b) s) (upper (q .a) (q .b) s))) Nothing)
   tame-ordered true e =
       let r = radicand (q .a) (q .b) (q .c) in
-      let tests = both (le still (q .a)) (le nought r) e in
+      let tests = both (le hundredMillionth (q .a)) (le nought r) e in
       let root = root-given r (h .radicand-finite) (passed (tests .1)) in
       let not-below = root-not-below (q .a) (q .b) (q .c) (root .1) in
       rw (root .1) (finite-roots-in-order (q .a) (q .b) (root .0) (h .two-a-finite) (h .b-finite) (passed (tests .0)) not-below)

@@ -3,15 +3,15 @@
 use mathlib.Core.Bool.{Bool, cond, _&&_}
 use lib.Ieee
 use lib.Ieee.{Float, binary64}
-use Rattle.floats.specs.Size.{nought}
+use Rattle.floats.specs.Constants.{nought}
 use Rattle.floats.specs.Compare.{smallerOf}
 use Rattle.floats.specs.Quadratic.{two, radicand, lower, upper}
-use Rattle.floats.specs.Domain.{still}
-use Rattle.root.specs.Root.{rootOf}
-use Rattle.shapes.specs.Vector.{difference, scaled, divided, dotOf}
+use Rattle.floats.specs.Constants.{hundredMillionth}
+use Rattle.root.specs.Root.{rootOf, withRoot}
+use Rattle.shapes.specs.Vector.{vectorDifference, scaled, divided, dotOf}
 use Rattle.shapes.specs.declared.vector.Vector.{Vector}
 use Rattle.motions.specs.declared.quadratic.Quadratic.{Quadratic}
-use Rattle.lines.specs.Stationary.{rooted, stationaryProximity}
+use Rattle.lines.specs.Stationary.{stationaryProximity}
 use Rattle.lines.specs.declared.stationary.Stay.{Stay}
 use Rattle.lines.specs.declared.stationary.Stay.the-variants.{Between, Nothing, Refused}
 
@@ -19,9 +19,9 @@ use Rattle.lines.specs.declared.stationary.Stay.the-variants.{Between, N
 -- quadratic (RULES 10.30).
 unfoldable pub acrossQuadratic : Vector → Vector → Vector → Vector → Float → Quadratic
 acrossQuadratic q u p0 v limit =
-    let alpha = difference v (scaled u (dotOf v u)) in
-    let k = dotOf (difference p0 q) u in
-    let beta = difference (difference p0 (scaled u k)) q in
+    let alpha = vectorDifference v (scaled u (dotOf v u)) in
+    let k = dotOf (vectorDifference p0 q) u in
+    let beta = vectorDifference (vectorDifference p0 (scaled u k)) q in
     record {
       a = dotOf alpha alpha;
       b = Ieee.mul binary64 two (dotOf alpha beta);
@@ -31,7 +31,7 @@ acrossQuadratic q u p0 v limit =
 -- It goes along with the line and is past its end r before `end` (RULES 10.35).
 unfoldable pub outlasting : Vector → Vector → Vector → Vector → Float → Bool
 outlasting r u p0 v end =
-    Ieee.lt (Ieee.div binary64 (dotOf (difference r p0) u) (dotOf v u)) end && Ieee.lt nought (dotOf v u)
+    Ieee.lt (Ieee.div binary64 (dotOf (vectorDifference r p0) u) (dotOf v u)) end && Ieee.lt nought (dotOf v u)
 
 -- The end is that of its stay at a place, where it stays there and leaves before.
 abbrev pub endedBy : Stay → Float → Float → Stay
@@ -53,11 +53,11 @@ spellOf r u p0 v dt limit first last =
 -- The answer: nothing with hardly any motion across, or where it is never near (RULES 10.31, 10.32).
 unfoldable pub nearLine : Vector → Vector → Vector → Vector → Vector → Float → Float → Stay
 nearLine q r u p0 pf dt limit =
-    let v = divided (difference pf p0) dt in
+    let v = divided (vectorDifference pf p0) dt in
     let k = acrossQuadratic q u p0 v limit in
     let d = radicand (k .a) (k .b) (k .c) in
-    cond (Ieee.lt (k .a) still)
+    cond (Ieee.lt (k .a) hundredMillionth)
     Nothing
     (cond (Ieee.lt d nought)
     Nothing
-    (rooted (rootOf d) (λ s. spellOf r u p0 v dt limit (lower (k .a) (k .b) s) (upper (k .a) (k .b) s))))
+    (withRoot Refused (rootOf d) (λ s. spellOf r u p0 v dt limit (lower (k .a) (k .b) s) (upper (k .a) (k .b) s))))

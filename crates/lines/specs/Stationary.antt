@@ -4,13 +4,12 @@ use mathlib.Core.Bool.{cond, _&&_}
 use mathlib.Core.List.{[], _∷_}
 use lib.Ieee
 use lib.Ieee.{Float, binary64, toBits}
+use Rattle.refusals.specs.Names.{NUMBER}
 use Rattle.lists.specs.Outcome.{Outcome, Gives, Refuses}
-use Rattle.floats.specs.Size.{nought}
+use Rattle.floats.specs.Constants.{nought}
 use Rattle.floats.specs.Quadratic.{coefficientA, coefficientB, coefficientC, radicand, lower, upper}
-use Rattle.floats.specs.Domain.{still}
-use Rattle.root.specs.Root.{rootOf}
-use Rattle.root.specs.declared.nearest.Root.{Root}
-use Rattle.root.specs.declared.nearest.Root.the-variants as R
+use Rattle.floats.specs.Constants.{hundredMillionth}
+use Rattle.root.specs.Root.{rootOf, withRoot}
 use Rattle.shapes.specs.declared.vector.Vector.{Vector}
 use Rattle.motions.specs.declared.quadratic.Quadratic.{Quadratic}
 use Rattle.lines.specs.declared.stationary.Stay.{Stay}
@@ -23,22 +22,17 @@ stationaryQuadratic r p0 v limit =
     let y = Ieee.sub binary64 (p0 .y) (r .y) in
     record { a = coefficientA (v .x) (v .y); b = coefficientB (v .x) (v .y) x y; c = coefficientC x y limit }
 
--- Goes on with a root.
-abbrev pub rooted : Root → (Float → Stay) → Stay
-rooted (R.Of s) go = go s
-rooted R.Refused go = Refused
-
 -- Both roots, where a is 1e-8 or more and the radicand 0 or more; else nothing (RULES 10.39).
 unfoldable pub stationaryProximity : Vector → Vector → Vector → Float → Stay
 stationaryProximity r p0 v limit =
     let q = stationaryQuadratic r p0 v limit in
     let d = radicand (q .a) (q .b) (q .c) in
-    cond (Ieee.le still (q .a) && Ieee.le nought d)
-    (rooted (rootOf d) (λ s. Between (lower (q .a) (q .b) s) (upper (q .a) (q .b) s)))
+    cond (Ieee.le hundredMillionth (q .a) && Ieee.le nought d)
+    (withRoot Refused (rootOf d) (λ s. Between (lower (q .a) (q .b) s) (upper (q .a) (q .b) s)))
     Nothing
 
 -- The number and the words of each case: how many roots there are, and they (RULES 4.1).
 abbrev pub stayOutcome : Stay → Outcome
 stayOutcome (Between t u) = Gives (2 ∷ (toBits binary64 t ∷ (toBits binary64 u ∷ [])))
 stayOutcome Nothing = Gives (0 ∷ [])
-stayOutcome Refused = Refuses 1
+stayOutcome Refused = Refuses NUMBER

@@ -21,7 +21,7 @@ ghost use lib.ListN.{length};
 ghost use Rattle.lists.specs.Outcome.{Handed};
 ghost use Rattle.obstacles.specs.Lent.{lentOf, obstaclesOf, obstaclesWith};
 ghost use Rattle.obstacles.specs.Boxes.{boxIn};
-ghost use Rattle.ranking.specs.Hints.{held};
+ghost use Rattle.ranking.specs.Hints.{rankedHeld};
 ghost use Rattle.arrival_paths.specs.Path.{pathFor};
 ghost use Rattle.arrival_paths.specs.Asked.{lonePath, pathOutcome, askedPath};
 
@@ -39,7 +39,7 @@ fn give_path(
     boxes: &[f64],
     out: &mut [u64],
 ) -> u64
-    ensures { λ r. ⌜ Handed (pathOutcome (pathFor trip (obstaclesWith (lentOf (now (starts .entry)) (now (numbers .entry)) (now (times .entry)) (now (xs .entry)) (now (ys .entry))) (boxIn (now (boxes .entry)))) (held hints) budget arrival)) (now (out .entry)) (now (out .exit)) r ⌝ }
+    ensures { λ r. ⌜ Handed (pathOutcome (pathFor trip (obstaclesWith (lentOf (now (starts .entry)) (now (numbers .entry)) (now (times .entry)) (now (xs .entry)) (now (ys .entry))) (boxIn (now (boxes .entry)))) (rankedHeld hints) budget arrival)) (now (out .entry)) (now (out .exit)) r ⌝ }
 {
     let found = arrival_path::compute_safe_arrival_path(
         trip,
@@ -84,7 +84,7 @@ fn path_among(
     out: &mut [u64],
 ) -> u64
     requires { ⌜ length (now starts) ≤ 32 ⌝ }
-    ensures { λ r. ⌜ Handed (pathOutcome (lonePath p agent arrival budget (held hints) (obstaclesOf (lentOf (now (starts .entry)) (now (numbers .entry)) (now (times .entry)) (now (xs .entry)) (now (ys .entry)))))) (now (out .entry)) (now (out .exit)) r ⌝ }
+    ensures { λ r. ⌜ Handed (pathOutcome (lonePath p agent arrival budget (rankedHeld hints) (obstaclesOf (lentOf (now (starts .entry)) (now (numbers .entry)) (now (times .entry)) (now (xs .entry)) (now (ys .entry)))))) (now (out .entry)) (now (out .exit)) r ⌝ }
 {
     let scaling = contour::scale_of(agent);
     match scaling {
@@ -138,7 +138,7 @@ pub fn arrival_path(
         Examined::Refused(n) => words::refuse(out, n),
         Examined::Fine => {
             if agent.is_brief() {
-                return words::refuse(out, 4);
+                return words::refuse(out, refusals::NO_LINE);
             }
             path_among(
                 p,

@@ -5,19 +5,19 @@ use lib.Ieee
 use Rattle.lists.specs.Listed.{listed, every}
 use Rattle.lists.specs.Rows.{wordsIn, hasRoom}
 use Rattle.floats.specs.Compare.{largerOf, smallerOf, isBetween, sizeOf}
-use Rattle.root.specs.Root.{units, rootOf}
+use Rattle.root.specs.Root.{leastUnits, rootOf}
 use Rattle.root.specs.Digits.{wholeRoot, rootPattern}
-use Rattle.numbers.specs.Time.{inReach, spanBetween, spanSum, instantAfter, laterOf, earlierOf, secondsOf, spanOfSeconds}
+use Rattle.numbers.specs.Time.{isExact, spanBetween, spanSum, instantAfter, laterOf, earlierOf, secondsOf, spanOfSeconds}
 use Rattle.numbers.specs.Time.{instantAfterSeconds}
 use Rattle.shapes.specs.Box.{boxOfPoint, incorporating, inflated, boxOfLeg, overlap}
 use Rattle.shapes.specs.Distance.{criticalDistance, criticalDistanceSquared}
 use Rattle.limits.specs.Domain.{isTime, isCoordinate, isRadius, isLimit, isWaypoint, isLeg, isProfile}
 use Rattle.shapes.specs.Leg.{placeOf, holds, isInside, isBackward, isRising, isBrief}
-use Rattle.shapes.specs.Vector.{sum, difference, scaled, divided, dotOf}
+use Rattle.shapes.specs.Vector.{vectorSum, vectorDifference, scaled, divided, dotOf}
 use Rattle.proximity.specs.Asked.{legsExamined, askedProximity}
 use Rattle.motions.specs.Motion.{motionAt}
 use Rattle.motions.specs.Quadratic.{meetingFrom}
-use Rattle.proximity.specs.Proximity.{passage, crossing, longRange, proximityOf}
+use Rattle.proximity.specs.Proximity.{passage, byRoots, longRange, proximityOf}
 use Rattle.conflicts.specs.Asked.{cartsExamined, askedConflict}
 use Rattle.conflicts.specs.Conflict.{closingAt, enteredAt, conflictOf}
 use Rattle.courses.specs.Course.{runOf, courseOf}
@@ -41,13 +41,13 @@ use Rattle.finding.specs.LegHints.{partOf, withPart, withLeg}
 use Rattle.finding.specs.Walk.{gapsOf, nearLeg, withLegs, withObstacle, withObstacles, hintsOf}
 use Rattle.segments.specs.Segment.{isDuring, legVerdict, firstOf, obstacleVerdict, segmentOf}
 use Rattle.arrivals.specs.Legs.{meets, follows, relieved, sooner}
-use Rattle.arrivals.specs.Search.{legsIn, moving, look, adjust, nextIn, next, soonest, sweep, turn, search, arrivals, flee}
-use Rattle.nearing.specs.Watched.{standing, nearOf, watchedLegs, watchedAll, arrivalsAt, endsNear}
+use Rattle.arrivals.specs.Search.{legsIn, obstaclesIn, look, adjust, nextIn, next, soonest, sweep, turn, search, arrivals, flee}
+use Rattle.nearing.specs.Watched.{standingLeg, nearOf, watchedLegs, watchedAll, arrivalsAt, endsNear}
 use Rattle.chains.specs.Handed.{chainOf, linksIn}
 use Rattle.chains.specs.Recursive.{recursiveSearch}
-use Rattle.choosing.specs.Roots.{lateness, goalContour, below, level, firstRoot}
+use Rattle.choosing.specs.Roots.{lateness, goalContour, countBelow, countLevel, firstRoot}
 use Rattle.ways.specs.Tests.{toEnd, toGoal, waitsAt, fromStart, straight}
-use Rattle.ways.specs.Travel.{waypointOf, reachedFrom}
+use Rattle.ways.specs.Travel.{hintWaypoint, reachedFrom}
 use Rattle.ways.specs.Way.{wayOf, bothWays}
 use Rattle.paths.specs.Trying.{stopIn, toParent, startsAt, chainFrom}
 use Rattle.actions.specs.Action.{actionWords}
@@ -59,25 +59,25 @@ use Rattle.plans.specs.Laid.{planNumber, planRoom, actionRoomOf}
 use Rattle.plans.specs.Plan.{pathsFor, pathsPlanned, timesPlanned, hintsPlanned, longPlan, shortPlan, planOf, allActions}
 use Rattle.search.specs.Asked.{askedArrivals}
 use Rattle.marked.specs.Marked.{Marked}
-use Rattle.marked.proofs.Printed.{printed}
+use Rattle.marked.proofs.Printed.{crossing-printed}
 
 pub marked : Marked
 unfolding askedProximity askedConflict cartsExamined legsExamined askedHints askedPlan withNumbers isBudget agentExamined
     isShaped isLaid tiles listed every isFew legsInAll isTrajectory areAllowed isAllowed isProfile isRadius isBetween isLeg
     isWaypoint isTime isCoordinate isLimit isBackward isRising isBrief obstaclesOf obstaclesWith waypointsOf boxOf
     boxOfTrajectory widened legsOf criticalDistanceSquared criticalDistance largerOf smallerOf sizeOf boxOfPoint
-    incorporating inflated boxOfLeg overlap placeOf sum difference scaled divided dotOf proximityOf longRange meetingFrom
-    motionAt holds isInside crossing passage conflictOf closingAt enteredAt segmentOf obstacleVerdict firstOf legVerdict
+    incorporating inflated boxOfLeg overlap placeOf vectorSum vectorDifference scaled divided dotOf proximityOf longRange meetingFrom
+    motionAt holds isInside byRoots passage conflictOf closingAt enteredAt segmentOf obstacleVerdict firstOf legVerdict
     isDuring runOf courseOf acrossQuadratic outlasting pastEnd spellOf nearLine normOf directionOf stationaryProximity
     W.refusedBy W.noHints W.held W.isGoing W.withHint W.withWait W.after isPlaced crossingWait besideLine beforeCrossing
     agentAfter standingWait hintsOf withObstacles withObstacle withLegs nearLeg gapsOf withLeg withPart partOf rankedHints
-    gradedOnto gradeOf contourOf scaleOf R.refusedBy R.noHints R.held R.withRanked inserted arrivalsAt watchedAll
-    watchedLegs standing nearOf arrivals legsIn moving search turn sweep adjust look meets follows soonest next nextIn
+    gradedOnto gradeOf contourOf scaleOf R.rankedRefused R.noRanked R.rankedHeld R.withRanked inserted arrivalsAt watchedAll
+    watchedLegs standingLeg nearOf arrivals legsIn obstaclesIn search turn sweep adjust look meets follows soonest next nextIn
     chainFrom recursiveSearch toParent startsAt stopIn chainOf linksIn straight fromStart waitsAt toGoal toEnd reachedFrom
-    waypointOf wayOf bothWays firstRoot level below goalContour lateness planOf shortPlan longPlan hintsPlanned timesPlanned
+    hintWaypoint wayOf bothWays firstRoot countLevel countBelow goalContour lateness planOf shortPlan longPlan hintsPlanned timesPlanned
     pathsPlanned pathsFor pathFor byHints taken alongHints hintsAt built ended stopped holdAfter planNumber planRoom
-    actionRoomOf hasRoom wordsIn allActions actionWords rootOf units rootPattern wholeRoot laterOf earlierOf spanBetween
-    spanSum inReach secondsOf instantAfterSeconds spanOfSeconds instantAfter Ieee.ofBits Ieee.ofInt Ieee.add Ieee.sub
+    actionRoomOf hasRoom wordsIn allActions actionWords rootOf leastUnits rootPattern wholeRoot laterOf earlierOf spanBetween
+    spanSum isExact secondsOf instantAfterSeconds spanOfSeconds instantAfter Ieee.ofBits Ieee.ofInt Ieee.add Ieee.sub
     Ieee.mul Ieee.div Ieee.le Ieee.toSigned Ieee.toBits askedArrivals endsNear flee relieved sooner Ieee.lt
 marked =
     record {
@@ -99,7 +99,7 @@ marked =
       p10-number = refl;
       p10-paths = refl;
       p10-actions = refl;
-      p10-printed = printed refl;
+      p10-printed = crossing-printed refl;
       p10-spent = refl;
       p10-brief = refl;
     }

@@ -5,31 +5,32 @@ use mathlib.Core.List.{_++_}
 use lib.Ieee
 use Rattle.patterns.specs.Word.{signedOf}
 use Rattle.plans.specs.Plan.{Plan, allActions}
-use Rattle.requests.specs.Table.{legOf, startsFrom, numbersOf, pointsOf, tableOf}
+use Rattle.requests.specs.Table.{requestLeg, startsFrom, obstacleNumbers, pointsOf, tableOf}
 use Rattle.requests.specs.Asked.{requestPlan, streamPlan}
-use Rattle.streams.specs.Crossing.{crossing, crossingStream}
+use Rattle.streams.specs.Crossing.{crossingRequest, crossingStream}
 use Rattle.streams.proofs.Crossing.{crosses}
 use Rattle.texts.specs.Letters.{bytesOf}
 use Rattle.texts.specs.Numerals.{glyph, decimalBy, decimalOf, signedText, hexBy, hexOf, countField, timeField, bitsField}
 use Rattle.wording.specs.Lines.{line, okLine, pathLine, moveLine, waitLine}
-use Rattle.answering.specs.Text.{actionText, actionsText, pathText, pathsText, planText, roomed, streamText}
+use Rattle.answering.specs.Text.{actionText, actionsText, pathText, pathsText, planReply, roomed, streamReply}
+use Rattle.answering.specs.Text.{printed, streamText}
 use Rattle.marked.specs.Marked.{planWith, crossingPlan}
 
 -- The request asks for the plan of P10.
-asked : requestPlan crossing ≡ planWith 4_096
-unfolding requestPlan crossing legOf tableOf startsFrom numbersOf pointsOf
+asked : requestPlan crossingRequest ≡ planWith 4_096
+unfolding requestPlan crossingRequest requestLeg tableOf startsFrom obstacleNumbers pointsOf
 asked = refl
 
 planned : streamPlan crossingStream ≡ planWith 4_096
 unfolding streamPlan
 planned = rw (crosses .reading) asked
 
-pub printed : planWith 4_096 ≡ crossingPlan → streamText crossingStream ≡
+pub crossing-printed : planWith 4_096 ≡ crossingPlan → streamText crossingStream ≡
     bytesOf "ok 1 1 1 1\n" ++
     (bytesOf "path 10000000000 1 2000000000\n" ++
     (bytesOf "move 4000000000 4010000000000000 0000000000000000\n" ++
     (bytesOf "wait 0 6000000000\n" ++ bytesOf "move 12000000000 4024000000000000 0000000000000000\n")))
-unfolding streamText roomed planText pathsText pathText actionsText actionText allActions
+unfolding streamText printed streamReply roomed planReply pathsText pathText actionsText actionText allActions
     okLine pathLine moveLine waitLine line countField timeField bitsField
     decimalOf decimalBy signedText signedOf hexOf hexBy glyph bytesOf Ieee.ofBits Ieee.toBits
-printed plan = ap (λ (p : Plan). planText (roomed p)) (planned ∙ plan)
+crossing-printed plan = ap (λ (p : Plan). printed (planReply (roomed p))) (planned ∙ plan)

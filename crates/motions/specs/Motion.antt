@@ -3,11 +3,8 @@
 use mathlib.Core.Bool.{cond}
 use lib.Ieee
 use lib.Ieee.{Float, binary64}
-use Rattle.numbers.specs.Time.{spanBetween, secondsOf}
+use Rattle.numbers.specs.Time.{spanBetween, secondsOf, withSpan}
 use Rattle.numbers.specs.declared.time.TimePoint.{TimePoint}
-use Rattle.numbers.specs.declared.time.Duration.{Duration}
-use Rattle.numbers.specs.declared.time.Span.{Span}
-use Rattle.numbers.specs.declared.time.Span.the-variants as S
 use Rattle.shapes.specs.Leg.{holds}
 use Rattle.shapes.specs.declared.waypoint.Leg.{Leg}
 use Rattle.shapes.specs.declared.vector.Vector.{Vector}
@@ -30,17 +27,12 @@ placeAfter leg v seconds =
       y = Ieee.add binary64 (leg .start .y) (Ieee.mul binary64 (v .y) seconds);
     }
 
--- Goes on with a span, or refuses 7.
-abbrev pub lasting : Span → (Duration → Motion) → Motion
-lasting (S.Of d) go = go d
-lasting S.Strayed go = Strayed
-
 -- The leg at t. The Rust works out how long the leg lasts before it asks whether its times hold t (RULES 8.2, 8.8).
 unfoldable pub motionAt : Leg → TimePoint → Motion
 motionAt leg t =
-    lasting (spanBetween (leg .start .time) (leg .end .time)) (λ lasts.
+    withSpan Strayed (spanBetween (leg .start .time) (leg .end .time)) (λ lasts.
     cond (holds leg t)
-    (lasting (spanBetween (leg .start .time) t) (λ gone.
+    (withSpan Strayed (spanBetween (leg .start .time) t) (λ gone.
     let v = velocityOver leg (secondsOf (lasts .0)) in
     At (record { place = placeAfter leg v (secondsOf (gone .0)); velocity = v })))
     Outside)

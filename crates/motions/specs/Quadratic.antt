@@ -1,7 +1,9 @@
 -- The quadratic of two legs (RULES 8.10, 8.11).
 -- Assumes nothing.
+use Prim.Native.Nat.{ℕ}
 use lib.Ieee
 use lib.Ieee.{Float, binary64}
+use Rattle.refusals.specs.Names.{APART, STRAYED}
 use Rattle.floats.specs.Quadratic.{coefficientA, coefficientB, coefficientC}
 use Rattle.numbers.specs.declared.time.TimePoint.{TimePoint}
 use Rattle.shapes.specs.declared.waypoint.Leg.{Leg}
@@ -25,8 +27,13 @@ quadraticOf limit p q =
 -- Goes on with a state; a leg that is nowhere at the instant is refused 6 (RULES 8.9), a span past 2^53 ns 7.
 abbrev pub moving : Motion → (State → Meeting) → Meeting
 moving (At s) go = go s
-moving Outside go = Refused 6
-moving Strayed go = Refused 7
+moving Outside go = Refused APART
+moving Strayed go = Refused STRAYED
+
+-- Going on with the quadratic of two legs, or with the number of the refusal.
+abbrev pub withMeeting : {A : Type 0} → (ℕ → A) → Meeting → (Quadratic → A) → A
+withMeeting refused (Of q) go = go q
+withMeeting refused (Refused n) go = refused n
 
 -- Of two legs from t0 on: the agent's is worked out first, as in the Rust (RULES 8.9, 8.10).
 unfoldable pub meetingFrom : Float → Leg → Leg → TimePoint → Meeting

@@ -41,13 +41,13 @@ pub fn meeting_from(limit: f64, agent: Leg, obstacle: Leg, t0: TimePoint) -> Mee
 {
     let first = motion::motion_at(agent, t0);
     match first {
-        Motion::Strayed => Meeting::Refused(7),
-        Motion::Outside => Meeting::Refused(6),
+        Motion::Strayed => Meeting::Refused(refusals::STRAYED),
+        Motion::Outside => Meeting::Refused(refusals::APART),
         Motion::At(p) => {
             let second = motion::motion_at(obstacle, t0);
             match second {
-                Motion::Strayed => Meeting::Refused(7),
-                Motion::Outside => Meeting::Refused(6),
+                Motion::Strayed => Meeting::Refused(refusals::STRAYED),
+                Motion::Outside => Meeting::Refused(refusals::APART),
                 Motion::At(q) => Meeting::Of(quadratic_of(limit, p, q)),
             }
         }

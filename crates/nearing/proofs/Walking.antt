@@ -12,7 +12,7 @@ use Rattle.lists.proofs.Listed.{listed-done, listed-next}
 use Rattle.numbers.specs.declared.time.TimePoint.{TimePoint}
 use Rattle.shapes.specs.declared.waypoint.Leg.{Leg}
 use Rattle.shapes.specs.declared.waypoint.Waypoint.{Waypoint}
-use Rattle.arrivals.specs.Search.{View, looked, orElse, finish, last, says, exits, flee, look, adjust, nextAt, nextIn, next}
+use Rattle.arrivals.specs.Search.{View, looked, orNext, finish, last, says, exits, flee, look, adjust, nextAt, nextIn, next}
 use Rattle.arrivals.specs.declared.turn.Adjustment.the-variants as A
 use Rattle.arrivals.specs.declared.next.Next.{Next}
 use Rattle.arrivals.specs.declared.next.Next.the-variants as X
@@ -58,7 +58,7 @@ module _ (limit : Float) (f : ℕ → Leg) (end : ℕ) where
 
     -- The candidate that may follow is what the leg gives, or what the rest does (RULES 12.15).
     pub next-next : (e : Next) → i < end → nextIn v c e (legsFrom i) ≡
-        orElse (nextAt v c (watched limit (f i))) (λ _. nextIn v c e (legsFrom (i + 1)))
+        orNext (nextAt v c (watched limit (f i))) (λ _. nextIn v c e (legsFrom (i + 1)))
     unfolding nextIn
     next-next e h = rw (watched-next i h)
 

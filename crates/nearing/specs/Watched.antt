@@ -5,9 +5,10 @@ use mathlib.Core.Bool.{Bool, cond}
 use mathlib.Core.List.{List, [], _∷_}
 use lib.Ieee
 use lib.Ieee.{Float}
+use Rattle.refusals.specs.Names.{SHAPE}
 use Rattle.shapes.specs.Distance.{criticalDistanceSquared}
 use Rattle.shapes.specs.Leg.{placeOf}
-use Rattle.shapes.specs.Vector.{difference, dotOf}
+use Rattle.shapes.specs.Vector.{vectorDifference, dotOf}
 use Rattle.shapes.specs.declared.profile.CircularProfile.{CircularProfile}
 use Rattle.shapes.specs.declared.waypoint.Leg.{Leg}
 use Rattle.shapes.specs.declared.waypoint.Waypoint.{Waypoint}
@@ -15,7 +16,7 @@ use Rattle.proximity.specs.Proximity.{proximityOf}
 use Rattle.proximity.specs.declared.detect.Proximity.{Proximity}
 use Rattle.obstacles.specs.Obstacle.{Obstacle, legsOf}
 use Rattle.obstacles.specs.Examined.{isFew}
-use Rattle.arrivals.specs.Search.{View, Answer, Refused, arrivals}
+use Rattle.arrivals.specs.Search.{View, Searched, Refused, arrivals}
 
 -- A leg of an obstacle, and the squared distance that it is held to.
 pub record Watched : Type 0 where
@@ -26,19 +27,19 @@ abbrev pub watched : Float → Leg → Watched
 watched limit leg = record { leg = leg; limit = limit }
 
 -- The agent standing at the place for as long as the leg lasts (RULES 12.2).
-unfoldable pub standing : Waypoint → Leg → Leg
-standing g leg =
+unfoldable pub standingLeg : Waypoint → Leg → Leg
+standingLeg g leg =
     record {
       start = record { time = leg .start .time; x = g .x; y = g .y };
       end = record { time = leg .end .time; x = g .x; y = g .y };
     }
 
 unfoldable pub nearOf : Waypoint → Float → Leg → Proximity
-nearOf g limit leg = proximityOf limit (standing g leg) leg
+nearOf g limit leg = proximityOf limit (standingLeg g leg) leg
 
 -- The last place is within the limit of the place asked for (RULES 12.16).
 unfoldable pub endsNear : Waypoint → Float → Waypoint → Bool
-endsNear g limit w = let apart = difference (placeOf w) (placeOf g) in Ieee.le (dotOf apart apart) limit
+endsNear g limit w = let apart = vectorDifference (placeOf w) (placeOf g) in Ieee.le (dotOf apart apart) limit
 
 -- What the search asks of such a leg.
 abbrev pub viewAt : Waypoint → View Watched
@@ -63,9 +64,9 @@ watchedAll p [] = []
 watchedAll p (o ∷ os) = watchedOf p o ∷ watchedAll p os
 
 -- The safe arrival times at a waypoint's place, from its time on (RULES 12.3).
-unfoldable pub arrivalsAt : CircularProfile → Waypoint → List Obstacle → Answer
+unfoldable pub arrivalsAt : CircularProfile → Waypoint → List Obstacle → Searched
 arrivalsAt p g os = arrivals (viewAt g) (watchedAll p os) (g .time)
 
 -- The same where there are no more obstacles and legs than the domain allows; else 2 (RULES 3.5).
-unfoldable pub arrivalsAmong : CircularProfile → Waypoint → List Obstacle → Answer
-arrivalsAmong p g os = cond (isFew os) (arrivalsAt p g os) (Refused 2)
+unfoldable pub arrivalsAmong : CircularProfile → Waypoint → List Obstacle → Searched
+arrivalsAmong p g os = cond (isFew os) (arrivalsAt p g os) (Refused SHAPE)

@@ -11,11 +11,11 @@ use shapes::waypoint::Leg;
 use shapes::waypoint::Waypoint;
 ghost use mathlib.Core.Path.{_≡_};
 ghost use Rattle.arrivals.specs.Search.{says, exits, nextAt};
-ghost use Rattle.nearing.specs.Watched.{standing, watched, nearOf, viewAt, endsNear};
+ghost use Rattle.nearing.specs.Watched.{standingLeg, watched, nearOf, viewAt, endsNear};
 
 // The agent standing at the place for as long as the leg lasts.
 fn stand(place: Waypoint, leg: Leg) -> Leg
-    ensures { λ r. ⌜ r ≡ standing place leg ⌝ }
+    ensures { λ r. ⌜ r ≡ standingLeg place leg ⌝ }
 {
     let start = leg.start.time;
     let end = leg.end.time;

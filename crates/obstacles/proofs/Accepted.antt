@@ -6,7 +6,7 @@ use mathlib.Core.List.{List, [], _∷_}
 use lib.Dec.{eqb}
 use lib.ListN.{length}
 use Rattle.lists.specs.Listed.{every}
-use Rattle.numbers.proofs.Reach.{both}
+use Rattle.numbers.proofs.Exact.{both}
 use Rattle.shapes.specs.Leg.{isBackward, isRising}
 use Rattle.limits.specs.Domain.{isLimit, isWaypoint, isLeg, isProfile}
 use Rattle.limits.specs.declared.domain.Examined.the-variants.{Fine, Refused}

@@ -14,7 +14,7 @@ use lib.ListN.{length, getD, set, length-set}
 use lib.Seq.{getD-set-same, getD-set-other}
 use lib.Ieee.{Float}
 use Rattle.lists.proofs.Listed.{listed-same}
-use Rattle.floats.specs.Size.{nought}
+use Rattle.floats.specs.Constants.{nought}
 use Rattle.shapes.specs.declared.bounding_box.BoundingBox.{BoundingBox}
 use Rattle.obstacles.specs.Lent.{Lent, boxOf, obstacleIn, obstaclesWith, obstaclesOf}
 use Rattle.obstacles.specs.Boxes.{boxIn, withBox, withBoxes, boxesOf}

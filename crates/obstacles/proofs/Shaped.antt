@@ -9,7 +9,7 @@ use borrow.Author.Tests.{leb-true}
 use lib.Dec.{leb}
 use lib.ListN.{length}
 use Rattle.lists.specs.Listed.{every}
-use Rattle.numbers.proofs.Reach.{both}
+use Rattle.numbers.proofs.Exact.{both}
 use Rattle.limits.specs.declared.domain.Examined.{Examined}
 use Rattle.limits.specs.declared.domain.Examined.the-variants.{Fine, Refused}
 use Rattle.shapes.specs.declared.profile.CircularProfile.{CircularProfile}

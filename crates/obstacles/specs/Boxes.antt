@@ -6,7 +6,7 @@ use mathlib.Core.List.{List}
 use lib.Dec.{ltb}
 use lib.ListN.{length, getD, set}
 use lib.Ieee.{Float}
-use Rattle.floats.specs.Size.{nought}
+use Rattle.floats.specs.Constants.{nought}
 use Rattle.shapes.specs.Box.{overlap}
 use Rattle.shapes.specs.declared.bounding_box.BoundingBox.{BoundingBox}
 use Rattle.obstacles.specs.Lent.{Lent, boxOf}

@@ -5,6 +5,7 @@ use mathlib.Core.Bool.{Bool, not, _&&_, cond}
 use mathlib.Core.List.{List, [], _∷_}
 use lib.Dec.{leb, eqb}
 use lib.ListN.{length}
+use Rattle.refusals.specs.Names.{NUMBER, SHAPE, BACKWARD}
 use Rattle.lists.specs.Listed.{listedTo, every}
 use Rattle.shapes.specs.Leg.{isBackward, isRising}
 use Rattle.limits.specs.Domain.{isLimit, isWaypoint, isLeg, isProfile}
@@ -59,5 +60,5 @@ areAllowed lent = every isAllowed (obstaclesOf lent)
 unfoldable pub agentExamined : CircularProfile → Leg → Lent → Examined
 agentExamined p leg lent =
     cond (isShaped lent)
-    (cond (isProfile p && (isLeg leg && areAllowed lent)) (cond (isBackward leg) (Refused 3) Fine) (Refused 1))
-    (Refused 2)
+    (cond (isProfile p && (isLeg leg && areAllowed lent)) (cond (isBackward leg) (Refused BACKWARD) Fine) (Refused NUMBER))
+    (Refused SHAPE)

@@ -6,7 +6,7 @@ use lib.ListN.{length, getD}
 use lib.IntN.{ℤ, pos}
 use lib.Ieee.{Float}
 use Rattle.lists.specs.Listed.{listedTo}
-use Rattle.floats.specs.Size.{nought}
+use Rattle.floats.specs.Constants.{nought}
 use Rattle.shapes.specs.declared.bounding_box.BoundingBox.{BoundingBox}
 use Rattle.shapes.specs.declared.profile.CircularProfile.{CircularProfile}
 use Rattle.shapes.specs.declared.waypoint.Leg.{Leg}

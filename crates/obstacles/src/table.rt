@@ -8,7 +8,7 @@ use shapes::waypoint::Waypoint;
 ghost use mathlib.Core.Path.{_≡_};
 ghost use lib.ListN.{getD};
 ghost use lib.IntN.{pos};
-ghost use Rattle.floats.specs.Size.{nought};
+ghost use Rattle.floats.specs.Constants.{nought};
 ghost use Rattle.obstacles.specs.Lent.{startIn, profileIn, limitIn, waypointIn};
 
 // An element of a list of doubles.

@@ -8,7 +8,7 @@ use native.Mathlib.Omega.{arith}
 use lib.ListN.{length, length-take}
 use lib.Signed.{≤ℤ-refl}
 use Rattle.numbers.proofs.Integers.{at-most→not-below}
-use Rattle.numbers.proofs.Reach.{both}
+use Rattle.numbers.proofs.Exact.{both}
 use Rattle.shapes.specs.Box.{boxOfLeg}
 use Rattle.limits.specs.Domain.{isLeg, isProfile}
 use Rattle.shapes.specs.Leg.{isBackward, isBrief}
@@ -18,7 +18,7 @@ use Rattle.shapes.specs.declared.waypoint.Leg.{Leg}
 use Rattle.limits.proofs.Limits.{leg-end}
 use Rattle.obstacles.specs.Examined.{isShaped, areAllowed, agentExamined}
 use Rattle.obstacles.specs.Lent.{Lent, obstaclesOf}
-use Rattle.ranking.specs.Hints.{refusedBy, noHints, held}
+use Rattle.ranking.specs.Hints.{rankedRefused, noRanked, rankedHeld}
 use Rattle.ranking.specs.declared.ranked_hints.RankedHints.{RankedHints}
 use Rattle.ranking.proofs.OneByOne.{withAllRanked, found-ranked}
 use Rattle.finding.specs.Walk.{hintsOf}
@@ -36,20 +36,20 @@ module _ (p : CircularProfile) (agent : Leg) (lent : Lent) (fine : agentExamined
   unfolding askedHints
   hints-alone lasts = rw (fine, lasts)
 
-  pub few-hints : isBrief agent ≡ false → length (held (askedHints p agent lent)) ≤ 64
-  unfolding held refusedBy
+  pub few-hints : isBrief agent ≡ false → length (rankedHeld (askedHints p agent lent)) ≤ 64
+  unfolding rankedHeld rankedRefused
   few-hints lasts = ⊎-elim refused answered (asked-answered p agent lent fine lasts)
     where
       refused : Refusal agent (hintsOf p agent (boxOfLeg (p .footprint) agent) (obstaclesOf lent)) (askedHints p agent lent) →
-          length (held (askedHints p agent lent)) ≤ 64
+          length (rankedHeld (askedHints p agent lent)) ≤ 64
       refused r = rw (r .alone) (omega arith)
 
       answered : Answer agent (hintsOf p agent (boxOfLeg (p .footprint) agent) (obstaclesOf lent)) (askedHints p agent lent) →
-          length (held (askedHints p agent lent)) ≤ 64
+          length (rankedHeld (askedHints p agent lent)) ≤ 64
       answered a =
           let h = found-ranked (a .measured) (a .few) in
-          let all : RankedHints = withAllRanked noHints (a .measured) in
-          let size : length (held all) ≡ min (all .count) (length (all .all)) = length-take (all .count) (all .all) in
+          let all : RankedHints = withAllRanked noRanked (a .measured) in
+          let size : length (rankedHeld all) ≡ min (all .count) (length (all .all)) = length-take (all .count) (all .all) in
           omega (arith, h .long, size, ap length (a .as-ranked), ap length (h .these))
 
   -- ---- The arrival times.

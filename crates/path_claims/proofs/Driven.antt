@@ -9,17 +9,17 @@ use Rattle.numbers.specs.declared.time.Duration.{Duration}
 use Rattle.shapes.specs.declared.waypoint.Waypoint.{Waypoint}
 use Rattle.obstacles.specs.Obstacle.{Obstacle}
 use Rattle.waits.specs.declared.hint.WaitHint.{WaitHint}
-use Rattle.ranking.specs.Hints.{blank}
+use Rattle.ranking.specs.Hints.{blankRanked}
 use Rattle.ranking.specs.declared.order.RankedHint.{RankedHint}
 use Rattle.chains.specs.Answer.{Way}
 use Rattle.chains.specs.Handed.{chainOf, linksIn}
 use Rattle.chains.proofs.Links.{way-back}
-use Rattle.ways.specs.Travel.{waypointOf}
+use Rattle.ways.specs.Travel.{hintWaypoint}
 use Rattle.ways.specs.declared.trip.Trip.{Trip}
 use Rattle.paths.specs.Trying.{stopIn, toParent, startsAt, reaches, chainFrom}
 use Rattle.actions.specs.Built.{Of, built, hintsAt, unheld}
 use Rattle.actions.specs.declared.action.SafeAction.{SafeAction}
-use Rattle.path_claims.specs.Driven.{still, SafeFrom}
+use Rattle.path_claims.specs.Driven.{stayedTill, SafeFrom}
 use Rattle.path_claims.proofs.Chain.{Leads, begun}
 use Rattle.path_claims.proofs.Parts.{Stop, SafeStop, stop, arrived, reached-there, end-passed, start-passed, goal-passed}
 use Rattle.path_claims.proofs.Searched.{safe-way}
@@ -29,16 +29,16 @@ module _ (trip : Trip) (os : List Obstacle) (hints : List RankedHint) where
   Safe = SafeFrom trip os
 
   abbrev hintAt : ℕ → WaitHint
-  hintAt i = getD hints i blank .hint
+  hintAt i = getD hints i blankRanked .hint
 
   -- A stop of the path, and what is driven behind it.
   safe-stop : {from : Waypoint} {h : WaitHint} {hs : List WaitHint} {actions : List SafeAction} {hold : Duration} →
-      (s : Stop trip from h hs actions hold) → SafeStop trip os from (s .arrival) h → Safe (waypointOf h) (s .rest) →
+      (s : Stop trip from h hs actions hold) → SafeStop trip os from (s .arrival) h → Safe (hintWaypoint h) (s .rest) →
       Safe from actions
-  unfolding waypointOf
+  unfolding hintWaypoint
   safe-stop {from} {h} s safe rest =
-      let stands : waypointOf h ≡ still (s .arrival) (h .until) =
-      ap (λ (v : Waypoint). still v (h .until)) (sym (reached-there (trip .speed) from (h .place) (s .reached))) in
+      let stands : hintWaypoint h ≡ stayedTill (s .arrival) (h .until) =
+      ap (λ (v : Waypoint). stayedTill v (h .until)) (sym (reached-there (trip .speed) from (h .place) (s .reached))) in
       rw (s .same) (safe .way, (rw stands at (safe .wait), rw stands at rest))
 
   -- From a hint by way of others to the goal.

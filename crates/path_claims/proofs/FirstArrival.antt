@@ -13,7 +13,7 @@ use Rattle.numbers.specs.declared.time.TimePoint.{TimePoint}
 use Rattle.shapes.specs.declared.waypoint.Waypoint.{Waypoint}
 use Rattle.obstacles.specs.Obstacle.{Obstacle}
 use Rattle.waits.specs.declared.hint.WaitHint.{WaitHint}
-use Rattle.ranking.specs.Hints.{blank}
+use Rattle.ranking.specs.Hints.{blankRanked}
 use Rattle.ranking.specs.declared.order.RankedHint.{RankedHint}
 use Rattle.chains.specs.Answer.{Way}
 use Rattle.chains.specs.Handed.{chainOf, linksIn}
@@ -41,7 +41,7 @@ module _ (trip : Trip) (os : List Obstacle) (hints : List RankedHint) (budget : 
       let b = begun (toParent trip os hints) (startsAt trip os hints) (reaches hints)
       (safe-way trip os hints budget first found) in
       let r = first-back (b .first) (b .rest) in
-      let h : WaitHint = getD hints (b .first) blank .hint in
+      let h : WaitHint = getD hints (b .first) blankRanked .hint in
       let s = stop trip (trip .leg .start) unheld h (hintsAt hints (r .rest)) (rw (b .links, r .same) at made) in
       let reached : s .arrival ≡ w = cc (s .same) in
       let until : h .until ≡ end = cc (s .same) in

@@ -21,7 +21,7 @@ use Rattle.shapes.specs.declared.waypoint.Leg.{Leg}
 use Rattle.obstacles.specs.Examined.{agentExamined}
 use Rattle.obstacles.specs.Lent.{Lent, obstaclesOf}
 use Rattle.obstacles.specs.Obstacle.{Obstacle}
-use Rattle.ranking.specs.Hints.{held}
+use Rattle.ranking.specs.Hints.{rankedHeld}
 use Rattle.ranking.specs.declared.order.RankedHint.{RankedHint}
 use Rattle.ranking.specs.declared.ranked_hints.RankedHints.{RankedHints}
 use Rattle.hints.specs.Contour.{scaleOf, rankedHints}
@@ -31,8 +31,8 @@ use Rattle.hints.specs.declared.contour.Scaling.the-variants as L
 use Rattle.arrivals.specs.Search as A
 use Rattle.nearing.specs.Watched.{arrivalsAt}
 use Rattle.chains.specs.Answer as N
-use Rattle.chains.specs.Answer.{Answer, isSpent}
-use Rattle.chains.specs.Handed.{firstOf, answered}
+use Rattle.chains.specs.Answer.{Chained, isSpent}
+use Rattle.chains.specs.Handed.{firstIndex, answered}
 use Rattle.chains.specs.declared.trial.Trial.{Trial}
 use Rattle.chains.specs.declared.trial.Trial.the-variants as T
 use Rattle.choosing.specs.Roots.{goalContour, firstRoot}
@@ -46,7 +46,7 @@ use Rattle.arrival_paths.specs.Path as P
 use Rattle.arrival_paths.specs.Path.{Sought, taken, contoured, byHints, pathFor}
 use Rattle.plans.specs.Asked.{askedPlan}
 use Rattle.plans.specs.Plan as Q
-use Rattle.plans.specs.Plan.{Path, Paths, Plan, first, sought, scaled, timed, planned, tripOf, pathsFor}
+use Rattle.plans.specs.Plan.{Path, Paths, Plan, first, sought, withScale, timed, planned, tripOf, pathsFor}
 use Rattle.plans.specs.Plan.{pathsPlanned, timesPlanned, hintsPlanned, longPlan, planOf}
 use Rattle.path_claims.proofs.Searched.{same-answer}
 
@@ -54,7 +54,7 @@ module _ (small large : ℕ) (le : small ≤ large) where
   module _ (trip : Trip) (os : List Obstacle) (hints : List RankedHint) where
     -- ---- A path.
 
-    spent-told : (a : Answer) → isSpent a ≡ true → taken trip hints (answered a) ≡ P.Refused 11
+    spent-told : (a : Chained) → isSpent a ≡ true → taken trip hints (answered a) ≡ P.Refused 11
     unfolding taken
     spent-told (N.Way links pops) e = absurd (true≢false (sym e))
     spent-told (N.NoWay pops) e = absurd (true≢false (sym e))
@@ -77,12 +77,12 @@ module _ (small large : ℕ) (le : small ≤ large) where
     same-by-hints t = by (eqb (length hints) 0) (goalContour trip t)
       where
         found : ℕ → Duration → Sought
-        found budget goal = taken trip hints (answered (chainFrom trip os hints budget (firstOf (firstRoot goal hints))))
+        found budget goal = taken trip hints (answered (chainFrom trip os hints budget (firstIndex (firstRoot goal hints))))
 
         by : (none : Bool) (c : Contour) → cond none (P.Missing 0) (contoured c (found small)) ≢ P.Refused 11 →
             cond none (P.Missing 0) (contoured c (found large)) ≡ cond none (P.Missing 0) (contoured c (found small))
         by true c kept = refl
-        by false (C.Of goal) kept = same-taken (firstOf (firstRoot goal hints)) kept
+        by false (C.Of goal) kept = same-taken (firstIndex (firstRoot goal hints)) kept
         by false (C.Refused n) kept = refl
 
     pub same-path : (t : TimePoint) → pathFor trip os hints small t ≢ P.Refused 11 →
@@ -130,7 +130,7 @@ module _ (small large : ℕ) (le : small ≤ large) where
         found : ℕ → Scale → List RankedHint → List TimePoint → ℕ → Plan
         found budget scale hints list n = pathsPlanned (tripOf p agent scale) os hints budget list n
 
-        in-times : (scale : Scale) (hints : List RankedHint) (a : A.Answer) →
+        in-times : (scale : Scale) (hints : List RankedHint) (a : A.Searched) →
             timed a (found small scale hints) ≢ Q.Refused 11 → timed a (found large scale hints) ≡ timed a (found small scale hints)
         in-times scale hints (A.Answered list n) kept =
             ap (planned (length hints) (length list) n)
@@ -139,16 +139,16 @@ module _ (small large : ℕ) (le : small ≤ large) where
         in-times scale hints A.Unfinished kept = refl
 
         in-hints : (scale : Scale) (list : RankedHints) (none : Bool) →
-            let few = timed (arrivalsAt p (agent .end) os) (found small scale (held list)) in
-            let many = timed (arrivalsAt p (agent .end) os) (found large scale (held list)) in
+            let few = timed (arrivalsAt p (agent .end) os) (found small scale (rankedHeld list)) in
+            let many = timed (arrivalsAt p (agent .end) os) (found large scale (rankedHeld list)) in
             cond none few (Q.Refused (list .refused)) ≢ Q.Refused 11 →
             cond none many (Q.Refused (list .refused)) ≡ cond none few (Q.Refused (list .refused))
-        in-hints scale list true kept = in-times scale (held list) (arrivalsAt p (agent .end) os) kept
+        in-hints scale list true kept = in-times scale (rankedHeld list) (arrivalsAt p (agent .end) os) kept
         in-hints scale list false kept = refl
 
-        by : (s : Scaling) → scaled s (λ scale. hintsPlanned (tripOf p agent scale) os os small) ≢ Q.Refused 11 →
-            scaled s (λ scale. hintsPlanned (tripOf p agent scale) os os large) ≡
-            scaled s (λ scale. hintsPlanned (tripOf p agent scale) os os small)
+        by : (s : Scaling) → withScale s (λ scale. hintsPlanned (tripOf p agent scale) os os small) ≢ Q.Refused 11 →
+            withScale s (λ scale. hintsPlanned (tripOf p agent scale) os os large) ≡
+            withScale s (λ scale. hintsPlanned (tripOf p agent scale) os os small)
         by (L.By scale) kept =
             let own : RankedHints = rankedHints p agent (boxOfLeg (p .footprint) agent) os in
             in-hints scale own (eqb (own .refused) 0) kept

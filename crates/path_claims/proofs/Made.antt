@@ -16,7 +16,7 @@ use Rattle.shapes.specs.declared.waypoint.Leg.{Leg}
 use Rattle.obstacles.specs.Examined.{agentExamined}
 use Rattle.obstacles.specs.Lent.{Lent, obstaclesOf}
 use Rattle.obstacles.specs.Obstacle.{Obstacle}
-use Rattle.ranking.specs.Hints.{held}
+use Rattle.ranking.specs.Hints.{rankedHeld}
 use Rattle.ranking.specs.declared.ranked_hints.RankedHints.{RankedHints}
 use Rattle.hints.specs.Contour.{scaleOf, rankedHints}
 use Rattle.hints.specs.declared.contour.Scale.{Scale}
@@ -26,7 +26,7 @@ use Rattle.arrivals.specs.Search as A
 use Rattle.nearing.specs.Watched.{arrivalsAt}
 use Rattle.asking.specs.Beside.{isBudget, withNumbers}
 use Rattle.plans.specs.Asked.{askedPlan}
-use Rattle.plans.specs.Plan.{Path, Paths, Of, Planned, Refused, scaled, timed, planned, tripOf, pathsFor}
+use Rattle.plans.specs.Plan.{Path, Paths, Of, Planned, Refused, withScale, timed, planned, tripOf, pathsFor}
 use Rattle.plans.specs.Plan.{pathsPlanned, timesPlanned, hintsPlanned, longPlan, planOf}
 
 -- The hints of the agent's leg.
@@ -38,11 +38,11 @@ pub record Made (p : CircularProfile) (agent : Leg) (budget : ℕ) (os : List Ob
   pub scale : Scale
   pub line : scaleOf agent ≡ L.By scale
   pub unrefused : ownHints p agent os .refused ≡ 0
-  pub hint-count : length (held (ownHints p agent os)) ≡ hints
+  pub hint-count : length (rankedHeld (ownHints p agent os)) ≡ hints
   pub list : List TimePoint
   pub arrivals : arrivalsAt p (agent .end) os ≡ A.Answered list sweeps
   pub time-count : length list ≡ times
-  pub paths : pathsFor (tripOf p agent scale) os (held (ownHints p agent os)) budget list ≡ Of ps
+  pub paths : pathsFor (tripOf p agent scale) os (rankedHeld (ownHints p agent os)) budget list ≡ Of ps
 
 module _ {hints times sweeps : ℕ} {ps : List Path} where
   not-planned : {n : ℕ} → Refused n ≡ Planned hints times sweeps ps → ⊥
@@ -57,11 +57,11 @@ module _ {hints times sweeps : ℕ} {ps : List Path} where
         own = ownHints p agent os
 
         found : Scale → List TimePoint → Paths
-        found scale list = pathsFor (tripOf p agent scale) os (held own) budget list
+        found scale list = pathsFor (tripOf p agent scale) os (rankedHeld own) budget list
 
         by-paths : (scale : Scale) → scaleOf agent ≡ L.By scale → own .refused ≡ 0 → (list : List TimePoint) (n : ℕ) →
             arrivalsAt p (agent .end) os ≡ A.Answered list n → (paths : Paths) → found scale list ≡ paths →
-            planned (length (held own)) (length list) n paths ≡ Planned hints times sweeps ps →
+            planned (length (rankedHeld own)) (length list) n paths ≡ Planned hints times sweeps ps →
             Made p agent budget os hints times sweeps ps
         by-paths scale line unrefused list n arrivals (Of l) paths e =
             let sweep : n ≡ sweeps = cc e in
@@ -78,9 +78,9 @@ module _ {hints times sweeps : ℕ} {ps : List Path} where
             }
         by-paths scale line unrefused list n arrivals (Refused m) paths e = absurd (not-planned e)
 
-        by-times : (scale : Scale) → scaleOf agent ≡ L.By scale → own .refused ≡ 0 → (a : A.Answer) →
+        by-times : (scale : Scale) → scaleOf agent ≡ L.By scale → own .refused ≡ 0 → (a : A.Searched) →
             arrivalsAt p (agent .end) os ≡ a →
-            timed a (λ list n. planned (length (held own)) (length list) n (found scale list)) ≡ Planned hints times sweeps ps →
+            timed a (λ list n. planned (length (rankedHeld own)) (length list) n (found scale list)) ≡ Planned hints times sweeps ps →
             Made p agent budget os hints times sweeps ps
         by-times scale line unrefused (A.Answered list n) arrivals e =
             by-paths scale line unrefused list n arrivals (found scale list) refl e
@@ -88,14 +88,14 @@ module _ {hints times sweeps : ℕ} {ps : List Path} where
         by-times scale line unrefused A.Unfinished arrivals e = absurd (not-planned e)
 
         by-hints : (scale : Scale) → scaleOf agent ≡ L.By scale → (none : Bool) → eqb (own .refused) 0 ≡ none →
-            cond none (timesPlanned (tripOf p agent scale) os os (held own) budget) (Refused (own .refused)) ≡
+            cond none (timesPlanned (tripOf p agent scale) os os (rankedHeld own) budget) (Refused (own .refused)) ≡
             Planned hints times sweeps ps → Made p agent budget os hints times sweeps ps
         by-hints scale line true none e =
             by-times scale line (eqb-true (own .refused) 0 none) (arrivalsAt p (agent .end) os) refl e
         by-hints scale line false none e = absurd (not-planned e)
 
         by : (s : Scaling) → scaleOf agent ≡ s →
-            scaled s (λ scale. hintsPlanned (tripOf p agent scale) os os budget) ≡ Planned hints times sweeps ps →
+            withScale s (λ scale. hintsPlanned (tripOf p agent scale) os os budget) ≡ Planned hints times sweeps ps →
             Made p agent budget os hints times sweeps ps
         by (L.By scale) line e = by-hints scale line (eqb (own .refused) 0) refl e
         by (L.Refused n) line e = absurd (not-planned e)

@@ -12,8 +12,8 @@ use Rattle.numbers.specs.declared.time.TimePoint.{TimePoint}
 use Rattle.obstacles.specs.Obstacle.{Obstacle}
 use Rattle.ranking.specs.declared.order.RankedHint.{RankedHint}
 use Rattle.chains.specs.Answer as A
-use Rattle.chains.specs.Answer.{Answer}
-use Rattle.chains.specs.Handed.{firstOf, chainOf, linksIn, answered}
+use Rattle.chains.specs.Answer.{Chained}
+use Rattle.chains.specs.Handed.{firstIndex, chainOf, linksIn, answered}
 use Rattle.chains.specs.declared.trial.Trial.{Trial}
 use Rattle.chains.specs.declared.trial.Trial.the-variants as T
 use Rattle.choosing.specs.Roots.{goalContour, firstRoot}
@@ -43,7 +43,7 @@ module _ {actions : List SafeAction} {pops : ℕ} {hold : Duration} where
   made n (B.Refused m) e = absurd (not-refused e)
 
   module _ (trip : Trip) (os : List Obstacle) (hints : List RankedHint) (budget : ℕ) (arrival : TimePoint) where
-    by-answer : (first : Option ℕ) → straight trip os arrival ≡ T.Failed → (a : Answer) → chainFrom trip os hints budget first ≡ a →
+    by-answer : (first : Option ℕ) → straight trip os arrival ≡ T.Failed → (a : Chained) → chainFrom trip os hints budget first ≡ a →
         taken trip hints (answered a) ≡ Path actions pops hold → Origin trip os hints budget arrival actions pops hold
     unfolding taken alongHints
     by-answer first failed (A.Way links n) found e =
@@ -57,14 +57,14 @@ module _ {actions : List SafeAction} {pops : ℕ} {hold : Duration} where
     unfolding byHints
     by-hints failed = by (eqb (length hints) 0) (goalContour trip arrival)
       where
-        chain : Duration → Answer
-        chain goal = chainFrom trip os hints budget (firstOf (firstRoot goal hints))
+        chain : Duration → Chained
+        chain goal = chainFrom trip os hints budget (firstIndex (firstRoot goal hints))
 
         by : (none : Bool) (contour : Contour) →
             cond none (Missing 0) (contoured contour (λ goal. taken trip hints (answered (chain goal)))) ≡ Path actions pops hold →
             Origin trip os hints budget arrival actions pops hold
         by true contour e = absurd (not-missing e)
-        by false (C.Of goal) e = by-answer (firstOf (firstRoot goal hints)) failed (chain goal) refl e
+        by false (C.Of goal) e = by-answer (firstIndex (firstRoot goal hints)) failed (chain goal) refl e
         by false (C.Refused n) e = absurd (not-refused e)
 
     pub origin : pathFor trip os hints budget arrival ≡ Path actions pops hold →

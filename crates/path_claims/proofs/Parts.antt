@@ -8,7 +8,8 @@ use mathlib.Core.List.{List, [], _∷_}
 use lib.Ieee
 use lib.Ieee.{Float, binary64}
 use lib.Signed.{ltZ}
-use Rattle.numbers.specs.Time.{instantAfterSeconds}
+use Rattle.root.specs.Root.{withRoot}
+use Rattle.numbers.specs.Time.{instantAfterSeconds, withSpan, withInstant}
 use Rattle.numbers.specs.declared.time.Duration.{Duration}
 use Rattle.numbers.specs.declared.time.Instant.{Instant}
 use Rattle.numbers.specs.declared.time.Instant.the-variants as I
@@ -17,7 +18,7 @@ use Rattle.numbers.specs.declared.time.Span.the-variants as S
 use Rattle.root.specs.declared.nearest.Root.{Root}
 use Rattle.root.specs.declared.nearest.Root.the-variants as R
 use Rattle.shapes.specs.Leg.{placeOf}
-use Rattle.shapes.specs.Vector.{difference}
+use Rattle.shapes.specs.Vector.{vectorDifference}
 use Rattle.shapes.specs.declared.vector.Vector.{Vector}
 use Rattle.shapes.specs.declared.waypoint.Waypoint.{Waypoint}
 use Rattle.courses.specs.Norm.{normOf}
@@ -27,12 +28,12 @@ use Rattle.chains.specs.declared.trial.Trial.{Trial}
 use Rattle.chains.specs.declared.trial.Trial.the-variants as T
 use Rattle.ways.specs.Tests.{toEnd, toGoal, waitsAt, fromStart}
 use Rattle.ways.specs.Travel as Travel
-use Rattle.ways.specs.Travel.{waypointAt, waypointOf, reachedFrom}
+use Rattle.ways.specs.Travel.{waypointAt, hintWaypoint, reachedFrom, withReached}
 use Rattle.ways.specs.Way.{wayOf, next, bothWays}
 use Rattle.ways.specs.declared.travel.Reached.{Reached}
 use Rattle.ways.specs.declared.travel.Reached.the-variants as W
 use Rattle.ways.specs.declared.trip.Trip.{Trip}
-use Rattle.actions.specs.Built.{Built, Of, Refused, reaching, spanning, holdAfter, stopped, ended, before, andOn, built}
+use Rattle.actions.specs.Built.{Built, Of, Refused, holdAfter, stopped, ended, inFront, andOn, built}
 use Rattle.actions.specs.declared.action.SafeAction.{SafeAction}
 use Rattle.actions.specs.declared.action.SafeAction.the-variants.{Move, Wait}
 
@@ -43,17 +44,17 @@ pub reached-there : (speed : Float) (from : Waypoint) (place : Vector) {w : Wayp
     reachedFrom speed from place ≡ W.At w → w ≡ waypointAt place (w .time)
 unfolding reachedFrom
 reached-there speed from place {w} =
-    by (normOf (difference place (placeOf from)))
+    by (normOf (vectorDifference place (placeOf from)))
     (λ length. instantAfterSeconds (from .time) (Ieee.div binary64 length speed))
   where
-    at : (i : Instant) → Travel.arriving i (λ t. W.At (waypointAt place t)) ≡ W.At w → w ≡ waypointAt place (w .time)
+    at : (i : Instant) → withInstant (W.Refused 7) i (λ t. W.At (waypointAt place t)) ≡ W.At w → w ≡ waypointAt place (w .time)
     at (I.At t) e =
         let same : waypointAt place t ≡ w = cc e in
         subst (λ (v : Waypoint). v ≡ waypointAt place (v .time)) same refl
     at I.Strayed e = absurd (true≢false (cc e))
 
     by : (root : Root) (when : Float → Instant) →
-        Travel.rooted root (λ length. Travel.arriving (when length) (λ t. W.At (waypointAt place t))) ≡ W.At w →
+        withRoot (W.Refused 1) root (λ length. withInstant (W.Refused 7) (when length) (λ t. W.At (waypointAt place t))) ≡ W.At w →
         w ≡ waypointAt place (w .time)
     by (R.Of s) when e = at (when s) e
     by R.Refused when e = absurd (true≢false (cc e))
@@ -68,7 +69,7 @@ pub record Stop (trip : Trip) (from : Waypoint) (h : WaitHint) (hs : List WaitHi
   pub rest : List SafeAction
   pub same : actions ≡ Move arrival ∷ (Wait (h .obstacle) (h .until) ∷ rest)
   pub sum : Duration
-  pub behind : built trip (waypointOf h) sum hs ≡ Of rest hold
+  pub behind : built trip (hintWaypoint h) sum hs ≡ Of rest hold
 
 -- The end of a path: the agent reaches the goal's place.
 pub record Arrived (trip : Trip) (from : Waypoint) (actions : List SafeAction) : Type 0 where
@@ -89,7 +90,7 @@ module _ (trip : Trip) (from : Waypoint) (start : Duration) {actions : List Safe
       waiting w sum = Of (Move w ∷ (Wait (h .obstacle) (h .until) ∷ [])) sum
 
       on : (w : Waypoint) → reachedFrom (trip .speed) from (h .place) ≡ W.At w → (sum : Duration) (b : Built) →
-          built trip (waypointOf h) sum hs ≡ b → before (Move w ∷ (Wait (h .obstacle) (h .until) ∷ [])) b ≡ Of actions hold →
+          built trip (hintWaypoint h) sum hs ≡ b → inFront (Move w ∷ (Wait (h .obstacle) (h .until) ∷ [])) b ≡ Of actions hold →
           Stop trip from h hs actions hold
       on w reached sum (Of rest end) behind e =
           record {
@@ -103,14 +104,14 @@ module _ (trip : Trip) (from : Waypoint) (start : Duration) {actions : List Safe
       on w reached sum (Refused n) behind e = absurd (not-built e)
 
       held : (w : Waypoint) → reachedFrom (trip .speed) from (h .place) ≡ W.At w → (s : Span) →
-          andOn (spanning s (waiting w)) (λ sum. built trip (waypointOf h) sum hs) ≡ Of actions hold →
+          andOn (withSpan (Refused 7) s (waiting w)) (λ sum. built trip (hintWaypoint h) sum hs) ≡ Of actions hold →
           Stop trip from h hs actions hold
-      held w reached (S.Of sum) e = on w reached sum (built trip (waypointOf h) sum hs) refl e
+      held w reached (S.Of sum) e = on w reached sum (built trip (hintWaypoint h) sum hs) refl e
       held w reached S.Strayed e = absurd (not-built e)
 
       by : (r : Reached) → reachedFrom (trip .speed) from (h .place) ≡ r →
-          andOn (reaching r (λ w. spanning (holdAfter start (w .time) (h .until)) (waiting w)))
-          (λ sum. built trip (waypointOf h) sum hs) ≡ Of actions hold → Stop trip from h hs actions hold
+          andOn (withReached Refused r (λ w. withSpan (Refused 7) (holdAfter start (w .time) (h .until)) (waiting w)))
+          (λ sum. built trip (hintWaypoint h) sum hs) ≡ Of actions hold → Stop trip from h hs actions hold
       by (W.At w) reached e = held w reached (holdAfter start (w .time) (h .until)) e
       by (W.Refused n) reached e = absurd (not-built e)
 
@@ -119,7 +120,7 @@ module _ (trip : Trip) (from : Waypoint) (start : Duration) {actions : List Safe
   arrived = by (reachedFrom (trip .speed) from (placeOf (trip .leg .end))) refl
     where
       by : (r : Reached) → reachedFrom (trip .speed) from (placeOf (trip .leg .end)) ≡ r →
-          reaching r (λ w. Of (Move w ∷ []) start) ≡ Of actions hold → Arrived trip from actions
+          withReached Refused r (λ w. Of (Move w ∷ []) start) ≡ Of actions hold → Arrived trip from actions
       by (W.At w) reached e = record { arrival = w; reached = reached; same = cc e }
       by (W.Refused n) reached e = absurd (not-built e)
 
@@ -134,13 +135,13 @@ module _ (trip : Trip) (os : List Obstacle) where
   -- A way to a hint and the wait there are both safe.
   pub record SafeStop (from w : Waypoint) (h : WaitHint) : Type 0 where
     pub way : wayOf (trip .profile) os from w ≡ T.Passed
-    pub wait : wayOf (trip .profile) os w (waypointOf h) ≡ T.Passed
+    pub wait : wayOf (trip .profile) os w (hintWaypoint h) ≡ T.Passed
 
-  pub end-passed : (from : Waypoint) (h : WaitHint) {w : Waypoint} → toEnd trip os from (waypointOf h) ≡ T.Passed →
+  pub end-passed : (from : Waypoint) (h : WaitHint) {w : Waypoint} → toEnd trip os from (hintWaypoint h) ≡ T.Passed →
       reachedFrom (trip .speed) from (h .place) ≡ W.At w → SafeStop from w h
-  unfolding toEnd bothWays waypointOf placeOf
+  unfolding toEnd bothWays hintWaypoint placeOf
   end-passed from h {w} passed reached =
-      let both = passed-next (wayOf (trip .profile) os from w) (wayOf (trip .profile) os w (waypointOf h)) (rw reached at passed) in
+      let both = passed-next (wayOf (trip .profile) os from w) (wayOf (trip .profile) os w (hintWaypoint h)) (rw reached at passed) in
       record { way = both .0; wait = both .1 }
 
   -- A hint's own start: it passed, and so the agent is there in time (RULES 13.16).
@@ -148,17 +149,17 @@ module _ (trip : Trip) (os : List Obstacle) where
     pub safe : SafeStop (trip .leg .start) w h
     pub in-time : ltZ (h .until .0) (w .time .0) ≡ false
 
-  pub start-passed : (h : WaitHint) {w : Waypoint} → fromStart trip os (waypointOf h) ≡ T.Passed →
+  pub start-passed : (h : WaitHint) {w : Waypoint} → fromStart trip os (hintWaypoint h) ≡ T.Passed →
       reachedFrom (trip .speed) (trip .leg .start) (h .place) ≡ W.At w → InTime w h
-  unfolding fromStart waitsAt waypointOf placeOf
+  unfolding fromStart waitsAt hintWaypoint placeOf
   start-passed h {w} passed reached =
       let way = wayOf (trip .profile) os (trip .leg .start) w in
-      let both = passed-next way (waitsAt trip os w (waypointOf h)) (rw reached at passed) in
+      let both = passed-next way (waitsAt trip os w (hintWaypoint h)) (rw reached at passed) in
       let wait = by (ltZ (h .until .0) (w .time .0)) (both .1) in
       record { safe = record { way = both .0; wait = wait .1 }; in-time = wait .0 }
     where
-      by : (late : Bool) → cond late T.Failed (wayOf (trip .profile) os w (waypointOf h)) ≡ T.Passed →
-          (late ≡ false) × (wayOf (trip .profile) os w (waypointOf h) ≡ T.Passed)
+      by : (late : Bool) → cond late T.Failed (wayOf (trip .profile) os w (hintWaypoint h)) ≡ T.Passed →
+          (late ≡ false) × (wayOf (trip .profile) os w (hintWaypoint h) ≡ T.Passed)
       by true e = absurd (true≢false (cc e))
       by false e = (refl, e)
 

@@ -12,7 +12,7 @@ use Rattle.shapes.specs.declared.profile.CircularProfile.{CircularProfile}
 use Rattle.shapes.specs.declared.waypoint.Leg.{Leg}
 use Rattle.obstacles.specs.Examined.{agentExamined}
 use Rattle.obstacles.specs.Lent.{Lent, obstaclesOf}
-use Rattle.ranking.specs.Hints.{refusedBy, held}
+use Rattle.ranking.specs.Hints.{rankedRefused, rankedHeld}
 use Rattle.ranking.specs.Ranked.{sorted}
 use Rattle.finding.specs.Walk.{hintsOf}
 use Rattle.hints.specs.Asked.{askedHints}
@@ -23,20 +23,20 @@ use Rattle.choosing.proofs.Chosen.{Chosen, AllBelow, sorted-rises, chosen, all-
 
 module _ (p : CircularProfile) (agent : Leg) (lent : Lent) (fine : agentExamined p agent lent ≡ X.Fine)
     (lasts : isBrief agent ≡ false) where
-  hints-sorted : sorted (held (askedHints p agent lent)) ≡ true
-  unfolding held refusedBy sorted
+  hints-sorted : sorted (rankedHeld (askedHints p agent lent)) ≡ true
+  unfolding rankedHeld rankedRefused sorted
   hints-sorted = ⊎-elim refused (λ a. a .ranking .in-order) (asked-answered p agent lent fine lasts)
     where
       refused : Refusal agent (hintsOf p agent (boxOfLeg (p .footprint) agent) (obstaclesOf lent)) (askedHints p agent lent) →
-          sorted (held (askedHints p agent lent)) ≡ true
+          sorted (rankedHeld (askedHints p agent lent)) ≡ true
       refused r = rw (r .alone)
 
   -- The root has the lowest contour that is not below the goal's, and is the last with that contour;
-  pub root-chosen : (goal : Duration) (i : ℕ) → firstRoot goal (held (askedHints p agent lent)) ≡ Root i →
-      Chosen goal (held (askedHints p agent lent)) i
-  root-chosen goal i = chosen goal (held (askedHints p agent lent)) i (sorted-rises (held (askedHints p agent lent)) hints-sorted)
+  pub root-chosen : (goal : Duration) (i : ℕ) → firstRoot goal (rankedHeld (askedHints p agent lent)) ≡ Root i →
+      Chosen goal (rankedHeld (askedHints p agent lent)) i
+  root-chosen goal i = chosen goal (rankedHeld (askedHints p agent lent)) i (sorted-rises (rankedHeld (askedHints p agent lent)) hints-sorted)
 
   -- there is none where every contour is below the goal's.
-  pub root-missing : (goal : Duration) → firstRoot goal (held (askedHints p agent lent)) ≡ Missing →
-      AllBelow goal (held (askedHints p agent lent))
-  root-missing goal = all-below goal (held (askedHints p agent lent))
+  pub root-missing : (goal : Duration) → firstRoot goal (rankedHeld (askedHints p agent lent)) ≡ Missing →
+      AllBelow goal (rankedHeld (askedHints p agent lent))
+  root-missing goal = all-below goal (rankedHeld (askedHints p agent lent))

@@ -14,7 +14,7 @@ use Rattle.shapes.specs.declared.waypoint.Leg.{Leg}
 use Rattle.obstacles.specs.Examined.{agentExamined}
 use Rattle.obstacles.specs.Lent.{Lent, obstaclesOf}
 use Rattle.obstacles.specs.Obstacle.{Obstacle}
-use Rattle.ranking.specs.Hints.{held}
+use Rattle.ranking.specs.Hints.{rankedHeld}
 use Rattle.ranking.specs.declared.order.RankedHint.{RankedHint}
 use Rattle.hints.specs.Asked.{askedHints}
 use Rattle.arrivals.specs.Search as A
@@ -69,7 +69,7 @@ module _ (p : CircularProfile) (agent : Leg) (budget : ℕ) (lent : Lent) where
   long-claims {ps = ps} lasts fine m =
       let os = obstaclesOf lent in
       let trip : Trip = tripOf p agent (m .scale) in
-      let hints : List RankedHint = held (askedHints p agent lent) in
+      let hints : List RankedHint = rankedHeld (askedHints p agent lent) in
       let same = hints-alone p agent lent fine lasts in
       let short : length hints ≤ 64 = few-hints p agent lent fine lasts in
       let turn : InTurn trip os hints budget (m .list) ps = in-turn trip os hints budget (m .list) ps (rw same (m .paths)) in

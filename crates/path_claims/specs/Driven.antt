@@ -14,12 +14,12 @@ use Rattle.actions.specs.declared.action.SafeAction.{SafeAction}
 use Rattle.actions.specs.declared.action.SafeAction.the-variants.{Move, Wait}
 
 -- The same place at another time.
-abbrev pub still : Waypoint → TimePoint → Waypoint
-still w t = record { time = t; x = w .x; y = w .y }
+abbrev pub stayedTill : Waypoint → TimePoint → Waypoint
+stayedTill w t = record { time = t; x = w .x; y = w .y }
 
 -- From a waypoint on: to the waypoint of each Move, staying there until the end of each Wait, and at last at the goal's place.
 abbrev pub SafeFrom : Trip → List Obstacle → Waypoint → List SafeAction → Type 0
 SafeFrom trip os from [] = placeOf from ≡ placeOf (trip .leg .end)
 SafeFrom trip os from (Move w ∷ rest) = (wayOf (trip .profile) os from w ≡ Passed) × SafeFrom trip os w rest
 SafeFrom trip os from (Wait obstacle end ∷ rest) =
-    (wayOf (trip .profile) os from (still from end) ≡ Passed) × SafeFrom trip os (still from end) rest
+    (wayOf (trip .profile) os from (stayedTill from end) ≡ Passed) × SafeFrom trip os (stayedTill from end) rest

@@ -8,18 +8,18 @@ use lib.ListN.{length, getD}
 use lib.Ieee
 use Rattle.shapes.specs.declared.waypoint.Waypoint.{Waypoint}
 use Rattle.obstacles.specs.Obstacle.{Obstacle}
-use Rattle.ranking.specs.Hints.{blank}
+use Rattle.ranking.specs.Hints.{blankRanked}
 use Rattle.ranking.specs.declared.order.RankedHint.{RankedHint}
-use Rattle.chains.specs.Answer.{Answer}
+use Rattle.chains.specs.Answer.{Chained}
 use Rattle.chains.specs.Recursive.{recursiveSearch}
 use Rattle.chains.specs.declared.trial.Trial.{Trial}
-use Rattle.ways.specs.Travel.{waypointOf}
+use Rattle.ways.specs.Travel.{hintWaypoint}
 use Rattle.ways.specs.Tests.{toEnd, toGoal, fromStart}
 use Rattle.ways.specs.declared.trip.Trip.{Trip}
 
 -- The waypoint of hint i.
 unfoldable pub stopIn : List RankedHint → ℕ → Waypoint
-stopIn hints i = waypointOf (getD hints i blank .hint)
+stopIn hints i = hintWaypoint (getD hints i blankRanked .hint)
 
 -- A root's way leads to the goal, a child's to the waypoint of its parent (RULES 13.10).
 unfoldable pub toParent : Trip → List Obstacle → List RankedHint → ℕ → Option ℕ → Trial
@@ -32,9 +32,9 @@ startsAt trip os hints i = fromStart trip os (stopIn hints i)
 
 -- A child's reach is at most its parent's (RULES 13.13).
 unfoldable pub reaches : List RankedHint → ℕ → ℕ → Bool
-reaches hints child i = Ieee.le (getD hints child blank .reach) (getD hints i blank .reach)
+reaches hints child i = Ieee.le (getD hints child blankRanked .reach) (getD hints i blankRanked .reach)
 
 -- The search from a first root; that it is the Rust's loop over a stack is `stack-is-recursion` of `chains`.
-unfoldable pub chainFrom : Trip → List Obstacle → List RankedHint → ℕ → Option ℕ → Answer
+unfoldable pub chainFrom : Trip → List Obstacle → List RankedHint → ℕ → Option ℕ → Chained
 chainFrom trip os hints budget first =
     recursiveSearch (toParent trip os hints) (startsAt trip os hints) (reaches hints) (length hints) budget first

@@ -15,14 +15,14 @@ ghost use Prim.Native.Nat.{_-_};
 ghost use lib.ListN.{length};
 ghost use Rattle.obstacles.specs.Lent.{lentOf, obstaclesWith};
 ghost use Rattle.obstacles.specs.Boxes.{boxIn};
-ghost use Rattle.ranking.specs.Hints.{held};
+ghost use Rattle.ranking.specs.Hints.{rankedHeld};
 ghost use Rattle.chains.specs.Recursive.{startedBy, tryHint, tryChildren, tryRoots};
-ghost use Rattle.chains.specs.Handed.{parentOf, firstOf, handed, answered};
+ghost use Rattle.chains.specs.Handed.{parentOf, firstIndex, handed, answered};
 ghost use Rattle.paths.specs.Trying.{stopIn, toParent, startsAt, reaches, chainFrom};
 
 // The waypoint of hint i.
 fn stop_at(hints: RankedHints, i: usize) -> Waypoint
-    ensures { λ r. ⌜ r ≡ stopIn (held hints) i ⌝ }
+    ensures { λ r. ⌜ r ≡ stopIn (rankedHeld hints) i ⌝ }
 {
     let ranked = hints.at(i);
     let hint = ranked.hint;
@@ -31,7 +31,7 @@ fn stop_at(hints: RankedHints, i: usize) -> Waypoint
 
 // Whether a child's reach is at most its parent's.
 fn is_in_reach(hints: RankedHints, child: usize, i: usize) -> bool
-    ensures { λ r. ⌜ r ≡ reaches (held hints) child i ⌝ }
+    ensures { λ r. ⌜ r ≡ reaches (rankedHeld hints) child i ⌝ }
 {
     let lower = hints.at(child);
     let upper = hints.at(i);
@@ -51,7 +51,7 @@ fn way_up(
     i: usize,
     parent: Parent,
 ) -> Trial
-    ensures { λ r. ⌜ r ≡ toParent trip (obstaclesWith (lentOf (now (starts .entry)) (now (numbers .entry)) (now (times .entry)) (now (xs .entry)) (now (ys .entry))) (boxIn (now (boxes .entry)))) (held hints) i (parentOf parent) ⌝ }
+    ensures { λ r. ⌜ r ≡ toParent trip (obstaclesWith (lentOf (now (starts .entry)) (now (numbers .entry)) (now (times .entry)) (now (xs .entry)) (now (ys .entry))) (boxIn (now (boxes .entry)))) (rankedHeld hints) i (parentOf parent) ⌝ }
 {
     let from = stop_at(hints, i);
     match parent {
@@ -76,7 +76,7 @@ fn try_start(
     i: usize,
     pops: u64,
 ) -> Tried
-    ensures { λ r. ⌜ r ≡ handed (startedBy (startsAt trip (obstaclesWith (lentOf (now (starts .entry)) (now (numbers .entry)) (now (times .entry)) (now (xs .entry)) (now (ys .entry))) (boxIn (now (boxes .entry)))) (held hints) i) i pops) ⌝ }
+    ensures { λ r. ⌜ r ≡ handed (startedBy (startsAt trip (obstaclesWith (lentOf (now (starts .entry)) (now (numbers .entry)) (now (times .entry)) (now (xs .entry)) (now (ys .entry))) (boxIn (now (boxes .entry)))) (rankedHeld hints) i) i pops) ⌝ }
 {
     let stop = stop_at(hints, i);
     let trial = tests::from_start(trip, stop, starts, numbers, times, xs, ys, boxes);
@@ -102,10 +102,10 @@ fn try_hint(
     parent: Parent,
     pops: u64,
 ) -> Tried
-    ensures { λ r. ⌜ r ≡ handed (tryHint (toParent trip (obstaclesWith (lentOf (now (starts .entry)) (now (numbers .entry)) (now (times .entry)) (now (xs .entry)) (now (ys .entry))) (boxIn (now (boxes .entry)))) (held hints)) (startsAt trip (obstaclesWith (lentOf (now (starts .entry)) (now (numbers .entry)) (now (times .entry)) (now (xs .entry)) (now (ys .entry))) (boxIn (now (boxes .entry)))) (held hints)) (reaches (held hints)) budget i (parentOf parent) pops) ⌝ }
+    ensures { λ r. ⌜ r ≡ handed (tryHint (toParent trip (obstaclesWith (lentOf (now (starts .entry)) (now (numbers .entry)) (now (times .entry)) (now (xs .entry)) (now (ys .entry))) (boxIn (now (boxes .entry)))) (rankedHeld hints)) (startsAt trip (obstaclesWith (lentOf (now (starts .entry)) (now (numbers .entry)) (now (times .entry)) (now (xs .entry)) (now (ys .entry))) (boxIn (now (boxes .entry)))) (rankedHeld hints)) (reaches (rankedHeld hints)) budget i (parentOf parent) pops) ⌝ }
 {
     if budget <= pops {
-        return Tried::ended(Ending::Refused(11), pops);
+        return Tried::ended(Ending::Refused(refusals::SPENT), pops);
     }
     let made = pops + 1;
     let trial = way_up(
@@ -157,7 +157,7 @@ fn try_children(
     k: usize,
     pops: u64,
 ) -> Tried
-    ensures { λ r. ⌜ r ≡ handed (tryChildren (toParent trip (obstaclesWith (lentOf (now (starts .entry)) (now (numbers .entry)) (now (times .entry)) (now (xs .entry)) (now (ys .entry))) (boxIn (now (boxes .entry)))) (held hints)) (startsAt trip (obstaclesWith (lentOf (now (starts .entry)) (now (numbers .entry)) (now (times .entry)) (now (xs .entry)) (now (ys .entry))) (boxIn (now (boxes .entry)))) (held hints)) (reaches (held hints)) budget i k pops) ⌝ }
+    ensures { λ r. ⌜ r ≡ handed (tryChildren (toParent trip (obstaclesWith (lentOf (now (starts .entry)) (now (numbers .entry)) (now (times .entry)) (now (xs .entry)) (now (ys .entry))) (boxIn (now (boxes .entry)))) (rankedHeld hints)) (startsAt trip (obstaclesWith (lentOf (now (starts .entry)) (now (numbers .entry)) (now (times .entry)) (now (xs .entry)) (now (ys .entry))) (boxIn (now (boxes .entry)))) (rankedHeld hints)) (reaches (rankedHeld hints)) budget i k pops) ⌝ }
 {
     if k == 0 {
         return try_start(trip, hints, starts, numbers, times, xs, ys, boxes, i, pops);
@@ -193,7 +193,7 @@ fn try_children(
         }
     }
     if budget <= made {
-        return Tried::ended(Ending::Refused(11), made);
+        return Tried::ended(Ending::Refused(refusals::SPENT), made);
     }
     try_children(
         trip,
@@ -224,7 +224,7 @@ fn try_roots(
     boxes: &[f64],
     from: usize,
 ) -> Tried
-    ensures { λ r. ⌜ r ≡ answered (tryRoots (toParent trip (obstaclesWith (lentOf (now (starts .entry)) (now (numbers .entry)) (now (times .entry)) (now (xs .entry)) (now (ys .entry))) (boxIn (now (boxes .entry)))) (held hints)) (startsAt trip (obstaclesWith (lentOf (now (starts .entry)) (now (numbers .entry)) (now (times .entry)) (now (xs .entry)) (now (ys .entry))) (boxIn (now (boxes .entry)))) (held hints)) (reaches (held hints)) budget (length (held hints) - from) from 0) ⌝ }
+    ensures { λ r. ⌜ r ≡ answered (tryRoots (toParent trip (obstaclesWith (lentOf (now (starts .entry)) (now (numbers .entry)) (now (times .entry)) (now (xs .entry)) (now (ys .entry))) (boxIn (now (boxes .entry)))) (rankedHeld hints)) (startsAt trip (obstaclesWith (lentOf (now (starts .entry)) (now (numbers .entry)) (now (times .entry)) (now (xs .entry)) (now (ys .entry))) (boxIn (now (boxes .entry)))) (rankedHeld hints)) (reaches (rankedHeld hints)) budget (length (rankedHeld hints) - from) from 0) ⌝ }
 {
     let count = hints.len();
     let mut root = from;
@@ -268,7 +268,7 @@ pub fn find_chain(
     ys: &[f64],
     boxes: &[f64],
 ) -> Tried
-    ensures { λ r. ⌜ r ≡ answered (chainFrom trip (obstaclesWith (lentOf (now (starts .entry)) (now (numbers .entry)) (now (times .entry)) (now (xs .entry)) (now (ys .entry))) (boxIn (now (boxes .entry)))) (held hints) budget (firstOf first)) ⌝ }
+    ensures { λ r. ⌜ r ≡ answered (chainFrom trip (obstaclesWith (lentOf (now (starts .entry)) (now (numbers .entry)) (now (times .entry)) (now (xs .entry)) (now (ys .entry))) (boxIn (now (boxes .entry)))) (rankedHeld hints) budget (firstIndex first)) ⌝ }
 {
     let First::Root(root) = first else {
         return Tried::ended(Ending::Unreached, 0);
@@ -288,7 +288,7 @@ pub fn find_chain(
         );
     }
     if budget == 0 {
-        return Tried::ended(Ending::Refused(11), 0);
+        return Tried::ended(Ending::Refused(refusals::SPENT), 0);
     }
     Tried::ended(Ending::Unreached, 1)
 }

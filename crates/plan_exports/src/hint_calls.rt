@@ -7,7 +7,7 @@ ghost use Rattle.lists.specs.Outcome.{Handed};
 ghost use Rattle.lending.specs.Lent.{hintsOutcome};
 ghost use Rattle.hints.specs.Asked.{askedHints};
 ghost use Rattle.obstacles.specs.Lent.{lentOf};
-ghost use Rattle.taking.specs.Plain.{legOf, profileOf};
+ghost use Rattle.taking.specs.Plain.{plainLeg, plainProfile};
 
 // The ranked hints for the agent's leg among the obstacles of a lent table.
 #[no_mangle]
@@ -27,7 +27,7 @@ pub extern "C" fn igelbert_wait_hints(
     ys: &[f64],
     out: &mut [u64],
 ) -> u64
-    ensures { λ r. ⌜ Handed (hintsOutcome (askedHints (profileOf footprint follow) (legOf t0 x0 y0 t1 x1 y1) (lentOf (now (starts .entry)) (now (numbers .entry)) (now (times .entry)) (now (xs .entry)) (now (ys .entry))))) (now (out .entry)) (now (out .exit)) r ⌝ }
+    ensures { λ r. ⌜ Handed (hintsOutcome (askedHints (plainProfile footprint follow) (plainLeg t0 x0 y0 t1 x1 y1) (lentOf (now (starts .entry)) (now (numbers .entry)) (now (times .entry)) (now (xs .entry)) (now (ys .entry))))) (now (out .entry)) (now (out .exit)) r ⌝ }
 {
     let p = CircularProfile { footprint, follow };
     let agent = legs::leg_of(t0, x0, y0, t1, x1, y1);

@@ -4,7 +4,7 @@ use taking::legs;
 ghost use Rattle.obstacles.specs.Lent.{lentOf};
 ghost use Rattle.plans.specs.Asked.{askedPlan};
 ghost use Rattle.plans.specs.Laid.{PlanHanded};
-ghost use Rattle.taking.specs.Plain.{legOf, profileOf};
+ghost use Rattle.taking.specs.Plain.{plainLeg, plainProfile};
 
 // The whole plan among the obstacles of a lent table: counts and paths in one room, the actions of all paths in the other.
 #[no_mangle]
@@ -26,7 +26,7 @@ pub extern "C" fn igelbert_linear_paths(
     paths: &mut [u64],
     actions: &mut [u64],
 ) -> u64
-    ensures { λ r. ⌜ PlanHanded (askedPlan (profileOf footprint follow) (legOf t0 x0 y0 t1 x1 y1) budget (lentOf (now (starts .entry)) (now (numbers .entry)) (now (times .entry)) (now (xs .entry)) (now (ys .entry)))) (now (paths .entry)) (now (paths .exit)) (now (actions .entry)) (now (actions .exit)) r ⌝ }
+    ensures { λ r. ⌜ PlanHanded (askedPlan (plainProfile footprint follow) (plainLeg t0 x0 y0 t1 x1 y1) budget (lentOf (now (starts .entry)) (now (numbers .entry)) (now (times .entry)) (now (xs .entry)) (now (ys .entry)))) (now (paths .entry)) (now (paths .exit)) (now (actions .entry)) (now (actions .exit)) r ⌝ }
 {
     let p = CircularProfile { footprint, follow };
     let agent = legs::leg_of(t0, x0, y0, t1, x1, y1);

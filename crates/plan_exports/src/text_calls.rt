@@ -1,13 +1,13 @@
-// What the program `plan` prints.
+// The reply to a request stream, whose text the program `plan` prints.
 use answering::reply;
 use texts::room::Told;
-ghost use Rattle.lists.specs.Outcome.{Handed, Gives};
-ghost use Rattle.answering.specs.Text.{streamText};
+ghost use Rattle.lists.specs.Outcome.{Handed};
+ghost use Rattle.answering.specs.Text.{streamReply};
 
-// The lines for a request stream, as bytes.
+// The lines of a plan, as bytes; of a refusal its number alone.
 #[no_mangle]
 pub extern "C" fn igelbert_plan(stream: &[u8], out: &mut [u8]) -> u64
-    ensures { λ r. ⌜ Handed (Gives (streamText (now (stream .entry)))) (now (out .entry)) (now (out .exit)) r ⌝ }
+    ensures { λ r. ⌜ Handed (streamReply (now (stream .entry))) (now (out .entry)) (now (out .exit)) r ⌝ }
 {
     let told = reply::reply(stream, out);
     match told {

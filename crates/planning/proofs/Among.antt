@@ -16,9 +16,9 @@ use Rattle.shapes.specs.declared.waypoint.Waypoint.{Waypoint}
 use Rattle.obstacles.specs.Obstacle.{Obstacle}
 use Rattle.obstacles.specs.Examined.{isFew}
 use Rattle.arrivals.specs.Search as A
-use Rattle.arrivals.specs.Search.{Answer, Answered, Unfinished}
+use Rattle.arrivals.specs.Search.{Searched, Answered, Unfinished}
 use Rattle.nearing.specs.Watched.{arrivalsAt, arrivalsAmong}
-use Rattle.search.specs.Listing.{numbersOf, countsIn, timesIn, Told}
+use Rattle.search.specs.Listing.{nanosecondsOf, countsIn, timesIn, Told}
 use Rattle.search.specs.declared.arrival_times.Arrivals.{Arrivals}
 use Rattle.search.specs.declared.arrival_times.Arrivals.the-variants as C
 use Rattle.search.proofs.Words.{length-numbers}
@@ -30,19 +30,19 @@ pub among-few : (p : CircularProfile) (g : Waypoint) (os : List Obstacle) →
 unfolding arrivalsAmong
 among-few p g os e = rw e
 
-instants-back : (l : List TimePoint) → instantsOf (numbersOf l) ≡ l
-unfolding instantsOf numbersOf
+instants-back : (l : List TimePoint) → instantsOf (nanosecondsOf l) ≡ l
+unfolding instantsOf nanosecondsOf
 instants-back [] = refl
 instants-back (t ∷ l) = ap (λ ts. t ∷ ts) (instants-back l)
 
-module _ {answer : Answer} {lent left : List ℤ} {r : Arrivals} (told : Told answer lent left r) where
+module _ {answer : Searched} {lent left : List ℤ} {r : Arrivals} (told : Told answer lent left r) where
   -- A refusal is the search's own, where there is room for all its times.
   pub told-refused : {n : ℕ} (go : List TimePoint → ℕ → Plan) → r ≡ C.Refused n →
       ((l : List TimePoint) (m : ℕ) → answer ≡ Answered l m → length l ≤ length lent) → timed answer go ≡ Refused n
   unfolding countsIn
   told-refused {n} go e room = by answer refl (sym e ∙ told .counts)
     where
-      by : (a : Answer) → answer ≡ a → C.Refused n ≡ countsIn a (length lent) → timed a go ≡ Refused n
+      by : (a : Searched) → answer ≡ a → C.Refused n ≡ countsIn a (length lent) → timed a go ≡ Refused n
       by (Answered l m) is f = let fits = le-ltb (length lent) (length l) (room l m is) in cc (rw fits at f)
       by (A.Refused m) is f = cc
       by Unfinished is f = cc
@@ -58,7 +58,7 @@ module _ {answer : Answer} {lent left : List ℤ} {r : Arrivals} (told : Told an
         fits l m true b f = absurd (true≢false (cc f))
         fits l m false b f = let same : count ≡ length l = cc in rw same (ltb-false (length lent) (length l) b)
 
-        by : (a : Answer) → C.Listed count sweeps ≡ countsIn a (length lent) → count ≤ length lent
+        by : (a : Searched) → C.Listed count sweeps ≡ countsIn a (length lent) → count ≤ length lent
         by (Answered l m) f = fits l m (ltb (length lent) (length l)) refl f
         by (A.Refused m) f = absurd (true≢false (cc f))
         by Unfinished f = absurd (true≢false (cc f))
@@ -69,16 +69,16 @@ module _ {answer : Answer} {lent left : List ℤ} {r : Arrivals} (told : Told an
       where
         fits : (l : List TimePoint) (m : ℕ) (t : Bool) →
             C.Listed count sweeps ≡ cond t (C.Refused 12) (C.Listed (length l) m) →
-            left ≡ cond t (replicate (length lent) (pos 0)) (numbersOf l ++ replicate (length lent - length l) (pos 0)) →
+            left ≡ cond t (replicate (length lent) (pos 0)) (nanosecondsOf l ++ replicate (length lent - length l) (pos 0)) →
             go l m ≡ go (instantsOf (take count left)) sweeps
         fits l m true f g = cc
         fits l m false f g =
             let same : count ≡ length l = cc in
             let as-many : sweeps ≡ m = cc in
             let rest : List ℤ = replicate (length lent - length l) (pos 0) in
-            rw (same, as-many, g, take-at (numbersOf l) rest (length l) (length-numbers l), instants-back l)
+            rw (same, as-many, g, take-at (nanosecondsOf l) rest (length l) (length-numbers l), instants-back l)
 
-        by : (a : Answer) → C.Listed count sweeps ≡ countsIn a (length lent) → left ≡ timesIn a (length lent) →
+        by : (a : Searched) → C.Listed count sweeps ≡ countsIn a (length lent) → left ≡ timesIn a (length lent) →
             timed a go ≡ go (instantsOf (take count left)) sweeps
         by (Answered l m) f g = fits l m (ltb (length lent) (length l)) f g
         by (A.Refused m) f g = cc

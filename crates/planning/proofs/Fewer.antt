@@ -16,7 +16,7 @@ use Rattle.arrival_paths.specs.Path as P
 use Rattle.arrival_paths.specs.Path.{Sought, pathFor}
 use Rattle.plans.specs.Plan as Q
 use Rattle.plans.specs.Plan.{Path, Of, Refused, first, sought, pathsFor, instantsOf}
-use Rattle.plans.specs.Laid.{PutPaths, countsOf}
+use Rattle.plans.specs.Laid.{PutPaths, pathCounts}
 use Rattle.plans.specs.declared.rooms.Paths.{Paths}
 use Rattle.plans.specs.declared.rooms.Paths.the-variants as R
 
@@ -55,10 +55,10 @@ pub found-few : (trip : Trip) (os : List Obstacle) (hints : List RankedHint) (bu
     {lent left lentActions leftActions : List ℕ} {r : Paths} {found many : ℕ} →
     PutPaths (pathsFor trip os hints budget times) lent left lentActions leftActions r → r ≡ R.Of found many →
     found ≤ length times
-unfolding countsOf
+unfolding pathCounts
 found-few trip os hints budget times {found} {many} p e =
     by (pathsFor trip os hints budget times) (sym e ∙ p .counts) (paths-fewer trip os hints budget times)
   where
-    by : (a : Q.Paths) → R.Of found many ≡ countsOf a → Fewer (length times) a → found ≤ length times
+    by : (a : Q.Paths) → R.Of found many ≡ pathCounts a → Fewer (length times) a → found ≤ length times
     by (Of ps) f h = let same : found ≡ length ps = cc in omega arith
     by (Refused n) f h = absurd (true≢false (cc f))

@@ -27,7 +27,7 @@ use Rattle.arrival_paths.specs.declared.arrival_path.Found.the-variants as F
 use Rattle.arrival_paths.proofs.Known.{actionsIn, path-is, path-counts, missing-is, refused-is}
 use Rattle.arrival_paths.proofs.Short.{path-short}
 use Rattle.plans.specs.Plan.{Path, Paths, Of, Refused, first, sought, pathsFor, instantsOf, pathWords, pathRows, allActions}
-use Rattle.plans.specs.Laid.{PutPaths, countsOf}
+use Rattle.plans.specs.Laid.{PutPaths, pathCounts}
 use Rattle.plans.specs.declared.rooms.Paths.the-variants as R
 
 -- ---- Paths behind others.
@@ -134,7 +134,7 @@ module _ {trip : Trip} {os : List Obstacle} {hints : List RankedHint} {budget : 
 
   -- All are worked through.
   pub kept-end : count ≤ i → PutPaths whole lent paths lentActions actions (R.Of found row)
-  unfolding countsOf
+  unfolding pathCounts
   kept-end h =
       let these : whole ≡ Of (k .done) =
       k .on ∙ ap (behind (k .done)) (at-end trip os hints budget list count i h) ∙ ap Of (append-nil (k .done)) in
@@ -160,7 +160,7 @@ module _ {trip : Trip} {os : List Obstacle} {hints : List RankedHint} {budget : 
 
     -- A refusal ends the work (RULES 15.11).
     pub kept-refused : {n : ℕ} → r ≡ F.Refused n → PutPaths whole lent paths lentActions left (R.Refused n)
-    unfolding countsOf
+    unfolding pathCounts
     kept-refused {n} e =
         let none : whole ≡ Refused n = goes (refused-is here n (sym (p .found) ∙ e)) in
         record {

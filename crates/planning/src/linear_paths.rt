@@ -18,7 +18,7 @@ ghost use lib.ListN.{length, take};
 ghost use Rattle.obstacles.specs.Lent.{lentOf, obstaclesOf, obstaclesWith};
 ghost use Rattle.obstacles.specs.Boxes.{boxIn};
 ghost use Rattle.obstacles.specs.Examined.{isFew};
-ghost use Rattle.ranking.specs.Hints.{held};
+ghost use Rattle.ranking.specs.Hints.{rankedHeld};
 ghost use Rattle.plans.specs.Plan.{Refused, pathsFor, instantsOf, pathsPlanned, timesPlanned, hintsPlanned};
 ghost use Rattle.plans.specs.Laid.{PutPaths, PlanHanded};
 
@@ -39,7 +39,7 @@ fn put_paths(
     actions: &mut [u64],
 ) -> Paths
     requires { ⌜ (count ≤ 289) × (count ≤ length (now list)) ⌝ }
-    ensures { λ r. ⌜ PutPaths (pathsFor trip (obstaclesWith (lentOf (now (starts .entry)) (now (numbers .entry)) (now (times .entry)) (now (xs .entry)) (now (ys .entry))) (boxIn (now (boxes .entry)))) (held hints) budget (instantsOf (take count (now (list .entry))))) (now (paths .entry)) (now (paths .exit)) (now (actions .entry)) (now (actions .exit)) r ⌝ }
+    ensures { λ r. ⌜ PutPaths (pathsFor trip (obstaclesWith (lentOf (now (starts .entry)) (now (numbers .entry)) (now (times .entry)) (now (xs .entry)) (now (ys .entry))) (boxIn (now (boxes .entry)))) (rankedHeld hints) budget (instantsOf (take count (now (list .entry))))) (now (paths .entry)) (now (paths .exit)) (now (actions .entry)) (now (actions .exit)) r ⌝ }
 {
     let mut found = 0;
     let mut row = 0;
@@ -94,7 +94,7 @@ fn plan_paths(
     actions: &mut [u64],
 ) -> u64
     requires { ⌜ (count ≤ 289) × (count ≤ length (now list)) ⌝ }
-    ensures { λ r. ⌜ PlanHanded (pathsPlanned trip (obstaclesWith (lentOf (now (starts .entry)) (now (numbers .entry)) (now (times .entry)) (now (xs .entry)) (now (ys .entry))) (boxIn (now (boxes .entry)))) (held hints) budget (instantsOf (take count (now (list .entry)))) sweeps) (now (paths .entry)) (now (paths .exit)) (now (actions .entry)) (now (actions .exit)) r ⌝ }
+    ensures { λ r. ⌜ PlanHanded (pathsPlanned trip (obstaclesWith (lentOf (now (starts .entry)) (now (numbers .entry)) (now (times .entry)) (now (xs .entry)) (now (ys .entry))) (boxIn (now (boxes .entry)))) (rankedHeld hints) budget (instantsOf (take count (now (list .entry)))) sweeps) (now (paths .entry)) (now (paths .exit)) (now (actions .entry)) (now (actions .exit)) r ⌝ }
 {
     let put = put_paths(
         trip,
@@ -143,7 +143,7 @@ fn plan_times(
     actions: &mut [u64],
 ) -> u64
     requires { ⌜ isFew (obstaclesOf (lentOf (now starts) (now numbers) (now times) (now xs) (now ys))) ≡ true ⌝ }
-    ensures { λ r. ⌜ PlanHanded (timesPlanned trip (obstaclesWith (lentOf (now (starts .entry)) (now (numbers .entry)) (now (times .entry)) (now (xs .entry)) (now (ys .entry))) (boxIn (now (boxes .entry)))) (obstaclesOf (lentOf (now (starts .entry)) (now (numbers .entry)) (now (times .entry)) (now (xs .entry)) (now (ys .entry)))) (held hints) budget) (now (paths .entry)) (now (paths .exit)) (now (actions .entry)) (now (actions .exit)) r ⌝ }
+    ensures { λ r. ⌜ PlanHanded (timesPlanned trip (obstaclesWith (lentOf (now (starts .entry)) (now (numbers .entry)) (now (times .entry)) (now (xs .entry)) (now (ys .entry))) (boxIn (now (boxes .entry)))) (obstaclesOf (lentOf (now (starts .entry)) (now (numbers .entry)) (now (times .entry)) (now (xs .entry)) (now (ys .entry)))) (rankedHeld hints) budget) (now (paths .entry)) (now (paths .exit)) (now (actions .entry)) (now (actions .exit)) r ⌝ }
 {
     let leg = trip.leg;
     let profile = trip.profile;

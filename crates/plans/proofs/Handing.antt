@@ -11,14 +11,14 @@ use lib.ListN.{length, length-map}
 use Rattle.lists.specs.Rows.{withRow, withRows, hasRoom}
 use Rattle.lists.proofs.Fours.{Fours, fours-map, length-rows, head-last, handing-over}
 use Rattle.patterns.specs.Word.{wordOf}
-use Rattle.numbers.proofs.Reach.{both}
+use Rattle.numbers.proofs.Exact.{both}
 use Rattle.shapes.specs.declared.waypoint.Leg.{Leg}
 use Rattle.actions.specs.Action.{actionWords, actionRows}
 use Rattle.actions.specs.declared.action.SafeAction.the-variants.{Move}
 use Rattle.actions.proofs.Rowed.{actions-fours}
 use Rattle.plans.specs.Plan.{Path, Of, Planned, planned, shortPlan, pathWords, pathRows, allActions, headRows}
 use Rattle.plans.specs.Plan as Q
-use Rattle.plans.specs.Laid.{PutPaths, SettledBoth, PlanHanded, countsOf, fits, planNumber, planRoom, actionRoomOf}
+use Rattle.plans.specs.Laid.{PutPaths, SettledBoth, PlanHanded, pathCounts, bothHold, planNumber, planRoom, actionRoomOf}
 use Rattle.plans.specs.declared.rooms.Paths.{Paths}
 use Rattle.plans.specs.declared.rooms.Paths.the-variants as R
 
@@ -30,7 +30,7 @@ pub handed-plan : (hints times sweeps : ℕ) (ps : List Path) {lent room left le
     PlanHanded (Planned hints times sweeps ps) lent left lentActions leftActions r
 unfolding planNumber planRoom actionRoomOf
 handed-plan hints times sweeps ps {lent} {room} {left} {lentActions} {actionRoom} {leftActions} {r} put put-actions s =
-    by (fits (length lent) (length lentActions) (1 + length ps) (length (allActions ps))) refl
+    by (bothHold (length lent) (length lentActions) (1 + length ps) (length (allActions ps))) refl
   where
     heads : List (List ℕ)
     heads = headRows hints times sweeps ps
@@ -53,7 +53,7 @@ handed-plan hints times sweeps ps {lent} {room} {left} {lentActions} {actionRoom
     many-actions : length (allActions ps) ≡ length rows
     many-actions = sym (length-map (allActions ps) actionWords)
 
-    by : (t : Bool) → fits (length lent) (length lentActions) (1 + length ps) (length (allActions ps)) ≡ t →
+    by : (t : Bool) → bothHold (length lent) (length lentActions) (1 + length ps) (length (allActions ps)) ≡ t →
         PlanHanded (Planned hints times sweeps ps) lent left lentActions leftActions r
     by true e =
         let fit = both (hasRoom (length lent) (1 + length ps)) (hasRoom (length lentActions) (length (allActions ps))) e in
@@ -90,10 +90,10 @@ module _ (hints times sweeps : ℕ) {answer : Q.Paths} {lent room left lentActio
   -- A refusal keeps nothing of either room.
   pub paths-refused : {n : ℕ} → found ≡ R.Refused n → PlanHanded (Q.Refused n) room left actionRoom leftActions r →
       PlanHanded (planned hints times sweeps answer) lent left lentActions leftActions r
-  unfolding countsOf planNumber planRoom actionRoomOf
+  unfolding pathCounts planNumber planRoom actionRoomOf
   paths-refused {n} e h = by answer (sym e ∙ p .counts)
     where
-      by : (a : Q.Paths) → R.Refused n ≡ countsOf a →
+      by : (a : Q.Paths) → R.Refused n ≡ pathCounts a →
           PlanHanded (planned hints times sweeps a) lent left lentActions leftActions r
       by (Of ps) f = absurd (true≢false (cc f))
       by (Q.Refused m) f =
@@ -108,10 +108,10 @@ module _ (hints times sweeps : ℕ) {answer : Q.Paths} {lent room left lentActio
       full ≡ withRow room 0 (hints ∷ (times ∷ (sweeps ∷ (many ∷ [])))) →
       SettledBoth (1 + many) more full left actionRoom leftActions r →
       PlanHanded (planned hints times sweeps answer) lent left lentActions leftActions r
-  unfolding countsOf
+  unfolding pathCounts
   paths-put {many} {more} {full} e put s = by answer refl (sym e ∙ p .counts)
     where
-      by : (a : Q.Paths) → answer ≡ a → R.Of many more ≡ countsOf a →
+      by : (a : Q.Paths) → answer ≡ a → R.Of many more ≡ pathCounts a →
           PlanHanded (planned hints times sweeps a) lent left lentActions leftActions r
       by (Of ps) is f =
           let counted : many ≡ length ps = cc in

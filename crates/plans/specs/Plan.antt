@@ -14,7 +14,7 @@ use Rattle.shapes.specs.Leg.{isBrief}
 use Rattle.shapes.specs.declared.profile.CircularProfile.{CircularProfile}
 use Rattle.shapes.specs.declared.waypoint.Leg.{Leg}
 use Rattle.obstacles.specs.Obstacle.{Obstacle}
-use Rattle.ranking.specs.Hints.{held}
+use Rattle.ranking.specs.Hints.{rankedHeld}
 use Rattle.ranking.specs.declared.order.RankedHint.{RankedHint}
 use Rattle.ranking.specs.declared.ranked_hints.RankedHints.{RankedHints}
 use Rattle.hints.specs.Contour.{scaleOf, rankedHints}
@@ -64,15 +64,15 @@ pub data Plan : Type 0 where
 
 -- ---- Going on with a part that may be refused.
 
-abbrev pub scaled : Scaling → (Scale → Plan) → Plan
-scaled (L.By scale) go = go scale
-scaled (L.Refused n) go = Refused n
+abbrev pub withScale : Scaling → (Scale → Plan) → Plan
+withScale (L.By scale) go = go scale
+withScale (L.Refused n) go = Refused n
 
 abbrev pub hinted : RankedHints → (List RankedHint → Plan) → Plan
-hinted list go = cond (eqb (list .refused) 0) (go (held list)) (Refused (list .refused))
+hinted list go = cond (eqb (list .refused) 0) (go (rankedHeld list)) (Refused (list .refused))
 
 -- `Unfinished` is never the answer, and 0 is no refusal's number.
-abbrev pub timed : A.Answer → (List TimePoint → ℕ → Plan) → Plan
+abbrev pub timed : A.Searched → (List TimePoint → ℕ → Plan) → Plan
 timed (A.Answered times sweeps) go = go times sweeps
 timed (A.Refused n) go = Refused n
 timed A.Unfinished go = Refused 0
@@ -106,7 +106,7 @@ hintsPlanned trip os others budget =
 
 -- 4 for the agent's line comes before all of them (RULES 5.6).
 unfoldable pub longPlan : CircularProfile → Leg → ℕ → List Obstacle → Plan
-longPlan p agent budget os = scaled (scaleOf agent) (λ scale. hintsPlanned (tripOf p agent scale) os os budget)
+longPlan p agent budget os = withScale (scaleOf agent) (λ scale. hintsPlanned (tripOf p agent scale) os os budget)
 
 -- A plan of less than 10 ns is one Move (RULES 13.4, 15.9).
 unfoldable pub shortPlan : Leg → Plan

@@ -49,10 +49,10 @@ pub fn settle(paths: &mut [u64], heads: usize, actions: &mut [u64], many: usize)
     ensures { λ r. ⌜ SettledBoth heads many (now (paths .entry)) (now (paths .exit)) (now (actions .entry)) (now (actions .exit)) r ⌝ }
 {
     if !rows::has_room(paths, heads) {
-        return refuse(paths, actions, 12);
+        return refuse(paths, actions, refusals::NO_ROOM);
     }
     if !rows::has_room(actions, many) {
-        return refuse(paths, actions, 12);
+        return refuse(paths, actions, refusals::NO_ROOM);
     }
     words::wipe_from(paths, 4 * heads);
     words::wipe_from(actions, 4 * many);

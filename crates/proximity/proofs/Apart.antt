@@ -8,7 +8,7 @@ use lib.Dec.{ltb, leb→le}
 use lib.IntN.{ℤ, pos, negsuc, natAbs, _-ℤ_, +ℤ-invr}
 use lib.Signed.{_≤ℤ_, _<ℤ_, ≤ℤ-refl, clashℤ}
 use lib.Ieee.{Float}
-use Rattle.numbers.specs.Time.{inReach, spanBetween}
+use Rattle.numbers.specs.Time.{isExact, spanBetween}
 use Rattle.numbers.specs.declared.time.Duration.{Duration}
 use Rattle.numbers.specs.declared.time.Span.the-variants as S
 use Rattle.numbers.proofs.Answers.{span-made}
@@ -97,7 +97,7 @@ module _ (limit : Float) (agent obstacle : Leg) where
       let t0 = rangeStart agent obstacle in
       by (span-made (rangeEnd agent obstacle) t0 (a .long .width) (a .long .given) .first) (met limit agent obstacle t0)
     where
-      by : {m : Meeting} → inReach (rangeStart agent obstacle .0) ≡ true →
+      by : {m : Meeting} → isExact (rangeStart agent obstacle .0) ≡ true →
           Met limit agent obstacle (rangeStart agent obstacle) m → m ≡ M.Refused 6
       by reach (both m) =
           clashℤ (a .backward) (in-range agent obstacle (m .agent-moves .holding) (m .obstacle-moves .holding) .1)

@@ -7,8 +7,8 @@ use native.Mathlib.Omega.{arith}
 use lib.IntN.{pos, natAbs, _+ℤ_, +ℤ-idr, +ℤ-comm, -ℤ-+ℤ-cancel}
 use lib.Signed.{_≤ℤ_}
 use lib.Ieee.{Float}
-use Rattle.floats.specs.Order.{_≼_}
-use Rattle.floats.specs.Size.{nought}
+use Rattle.floats.proofs.Relations.{_≼_}
+use Rattle.floats.specs.Constants.{nought}
 use Rattle.numbers.specs.Time.{spanBetween, instantAfter, instantAfterSeconds, secondsOf}
 use Rattle.numbers.specs.declared.time.TimePoint.{TimePoint}
 use Rattle.numbers.specs.declared.time.Instant.the-variants as I
@@ -16,19 +16,19 @@ use Rattle.numbers.specs.declared.time.Span.the-variants as S
 use Rattle.numbers.proofs.Cut.{nanosecondsOf}
 use Rattle.numbers.proofs.Answers.{span-made}
 use Rattle.numbers.proofs.Integers.{at-most-trans, sum-mono, difference-not-below, size-at-most}
-use Rattle.numbers.proofs.Reach.{smaller-in-reach, difference-in-reach}
+use Rattle.numbers.proofs.Exact.{smaller-exact, difference-exact}
 use Rattle.numbers.proofs.Order.{between-size}
 use Rattle.numbers.proofs.Spans.{spanFrom, between-given}
 use Rattle.numbers.proofs.Width.{in-width}
 use Rattle.limits.specs.Domain.{isTime}
-use Rattle.limits.proofs.Limits.{time-not-below, time-at-most, time-in-reach}
+use Rattle.limits.proofs.Limits.{time-not-below, time-at-most, time-exact}
 
 time-size : (t : TimePoint) → isTime t ≡ true → natAbs (t .0) ≤ 2 ^ 52
 time-size t h = omega (arith, size-at-most (t .0) (10 ^ 15) (time-not-below t h) (time-at-most t h))
 
 pub times-given : (t u : TimePoint) → isTime t ≡ true → isTime u ≡ true → spanBetween t u ≡ S.Of (spanFrom t u)
 times-given t u h k =
-    between-given t u (time-in-reach t h) (time-in-reach u k) (difference-in-reach (u .0) (t .0) (time-size u k) (time-size t h))
+    between-given t u (time-exact t h) (time-exact u k) (difference-exact (u .0) (t .0) (time-size u k) (time-size t h))
 
 -- ---- The instant some seconds after t0.
 
@@ -54,11 +54,11 @@ arrives {t0} {t1} {s} start end in-order low high =
     let not-before : t0 .0 ≤ℤ u .0 = rw +ℤ-idr at (sum-mono (t0 .0) (pos 0) n (held .not-below)) in
     let not-after : u .0 ≤ℤ t1 .0 =
     rw (+ℤ-comm (t0 .0) w, -ℤ-+ℤ-cancel (t1 .0) (t0 .0)) at (sum-mono (t0 .0) n w (held .at-most)) in
-    let span-reach = smaller-in-reach n w (held .not-below) (held .at-most) (span-made t0 t1 (spanFrom t0 t1) spanned .result) in
+    let span-reach = smaller-exact n w (held .not-below) (held .at-most) (span-made t0 t1 (spanFrom t0 t1) spanned .result) in
     let not-below = at-most-trans (pos 0) (t0 .0) (u .0) (time-not-below t0 start) not-before in
-    let reach = smaller-in-reach (u .0) (t1 .0) not-below not-after (time-in-reach t1 end) in
+    let reach = smaller-exact (u .0) (t1 .0) not-below not-after (time-exact t1 end) in
     record {
-      given = rw (held .given, time-in-reach t0 start, span-reach, reach);
+      given = rw (held .given, time-exact t0 start, span-reach, reach);
       not-before = not-before;
       not-after = not-after;
     }

@@ -6,7 +6,7 @@ use types.Run.{OneOf, miss}
 use denote.Enum.Declared.{tagOf}
 use lib.Ieee.{Float}
 use Rattle.numbers.specs.declared.time.TimePoint.{TimePoint}
-use Rattle.proximity.specs.Range.{nearBy, orElse}
+use Rattle.proximity.specs.Range.{nearBy, orAtEnd}
 use Rattle.motions.specs.declared.motion.Motion.{Motion}
 use Rattle.motions.specs.declared.motion.Motion.the-variants as M
 use Rattle.proximity.specs.declared.detect.Proximity.{Proximity}
@@ -22,7 +22,7 @@ not-strayed limit M.Outside t k = refl
 not-strayed limit M.Strayed t k = absurd (miss (0 ∷ (1 ∷ [])) 2 tt k)
 
 -- Where the first answer says something, it is the answer.
-pub not-never : (p second : Proximity) → OneOf (1 ∷ (2 ∷ (3 ∷ []))) (tagOf proximity p) → orElse p second ≡ p
+pub not-never : (p second : Proximity) → OneOf (1 ∷ (2 ∷ (3 ∷ []))) (tagOf proximity p) → orAtEnd p second ≡ p
 not-never Never second k = absurd (miss (1 ∷ (2 ∷ (3 ∷ []))) 0 tt k)
 not-never (Enters t) second k = refl
 not-never (Passes t u) second k = refl

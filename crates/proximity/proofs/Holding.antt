@@ -8,7 +8,7 @@ use Rattle.floats.proofs.Tests.{passed}
 use Rattle.numbers.specs.declared.time.TimePoint.{TimePoint}
 use Rattle.numbers.proofs.Integers.{at-most→not-below, below-or-at-most, at-most-trans}
 use Rattle.numbers.proofs.Order.{Chosen, later, earlier, chosen-has}
-use Rattle.numbers.proofs.Reach.{both}
+use Rattle.numbers.proofs.Exact.{both}
 use Rattle.shapes.specs.Leg.{holds, isInside}
 use Rattle.shapes.specs.declared.waypoint.Leg.{Leg}
 use Rattle.proximity.specs.Range.{rangeStart, rangeEnd}

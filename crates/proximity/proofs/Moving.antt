@@ -6,7 +6,7 @@ use mathlib.Core.Logic.{_⊎_, inl, inr}
 use mathlib.Core.Bool.{Bool, true, false, _&&_, cond, true≢false}
 use lib.Signed.{_≤ℤ_}
 use lib.Ieee.{Float}
-use Rattle.numbers.specs.Time.{inReach, spanBetween, secondsOf}
+use Rattle.numbers.specs.Time.{isExact, spanBetween, secondsOf, withSpan}
 use Rattle.numbers.specs.declared.time.TimePoint.{TimePoint}
 use Rattle.numbers.specs.declared.time.Duration.{Duration}
 use Rattle.numbers.specs.declared.time.Span.{Span}
@@ -14,7 +14,7 @@ use Rattle.numbers.specs.declared.time.Span.the-variants as S
 use Rattle.numbers.proofs.Spans.{part-given}
 use Rattle.shapes.specs.Leg.{holds}
 use Rattle.shapes.specs.declared.waypoint.Leg.{Leg}
-use Rattle.motions.specs.Motion.{velocityOver, placeAfter, lasting, motionAt}
+use Rattle.motions.specs.Motion.{velocityOver, placeAfter, motionAt}
 use Rattle.motions.specs.Quadratic.{quadraticOf, moving, meetingFrom}
 use Rattle.proximity.specs.Range.{rangeStart, rangeEnd}
 use Rattle.motions.specs.declared.motion.Motion.{Motion}
@@ -57,8 +57,8 @@ motion leg t =
   where
     by : (x : Span) (b : Bool) (y : Span) →
         spanBetween (leg .start .time) (leg .end .time) ≡ x → holds leg t ≡ b → spanBetween (leg .start .time) t ≡ y →
-        Motioned leg t (lasting x (λ lasts.
-        cond b (lasting y (λ gone. At (stateAfter leg (secondsOf (lasts .0)) (secondsOf (gone .0))))) Outside))
+        Motioned leg t (withSpan Strayed x (λ lasts.
+        cond b (withSpan Strayed y (λ gone. At (stateAfter leg (secondsOf (lasts .0)) (secondsOf (gone .0))))) Outside))
     by (S.Of d) true (S.Of g) p h q =
         there (record { holding = h; lasts = d; gone = g; lasting = p; going = q; state = refl })
     by (S.Of d) true S.Strayed p h q = strayed (so-far h q)
@@ -67,7 +67,7 @@ motion leg t =
 
 -- A leg that lasts at most 2^53 ns strays at no instant in reach.
 pub never-strays : {leg : Leg} {t : TimePoint} {d : Duration} →
-    spanBetween (leg .start .time) (leg .end .time) ≡ S.Of d → inReach (t .0) ≡ true → Strays leg t → ⊥
+    spanBetween (leg .start .time) (leg .end .time) ≡ S.Of d → isExact (t .0) ≡ true → Strays leg t → ⊥
 never-strays e r (in-all f) = absurd (true≢false cc)
 never-strays {leg} {t} e r (so-far h f) =
     let given = part-given {u = t} e r (held h .from-start) (held h .to-end) in absurd (true≢false cc)

@@ -6,11 +6,14 @@ use mathlib.Core.Logic.{_⊎_, inl, inr}
 use mathlib.Core.Bool.{Bool, true, false, cond}
 use lib.Signed.{_≤ℤ_, _<ℤ_, ≤ℤ-refl}
 use lib.Ieee.{Float, lt, le, isNan}
-use Rattle.floats.specs.Order.{_≼_}
-use Rattle.floats.specs.Size.{nought, Within}
+use Rattle.motions.specs.Quadratic.{withMeeting}
+use Rattle.floats.proofs.Relations.{_≼_}
+use Rattle.floats.specs.Constants.{nought}
+use Rattle.floats.proofs.Magnitude.{Within}
 use Rattle.floats.specs.Compare.{largerOf, sizeOf}
 use Rattle.floats.specs.Quadratic.{radicand}
-use Rattle.floats.specs.Domain.{widest, still, shortest}
+use Rattle.floats.proofs.Largest.{widest}
+use Rattle.floats.specs.Constants.{hundredMillionth, tenThousandth}
 use Rattle.floats.proofs.Tests.{passed, failed}
 use Rattle.floats.proofs.Preorder.{left-known, right-known}
 use Rattle.floats.proofs.Strict.{not-lt→le}
@@ -24,9 +27,9 @@ use Rattle.numbers.proofs.Spans.{spanFrom}
 use Rattle.limits.specs.Domain.{isTime, isLimit, isLeg}
 use Rattle.limits.specs.declared.domain.Examined.the-variants as X
 use Rattle.shapes.specs.declared.waypoint.Leg.{Leg}
-use Rattle.limits.proofs.Limits.{time-in-reach, limit-within}
-use Rattle.proximity.specs.Range.{rangeStart, rangeEnd, isShort, nearAt, orElse, shortRange}
-use Rattle.proximity.specs.Proximity.{meeting, standing, passage, crossing, longRange, proximityOf}
+use Rattle.limits.proofs.Limits.{time-exact, limit-within}
+use Rattle.proximity.specs.Range.{rangeStart, rangeEnd, isShort, nearAt, orAtEnd, shortRange}
+use Rattle.proximity.specs.Proximity.{withoutMotion, passage, byRoots, longRange, proximityOf}
 use Rattle.proximity.specs.Asked.{legsExamined, askedProximity}
 use Rattle.motions.specs.declared.quadratic.Meeting.{Meeting}
 use Rattle.proximity.specs.declared.detect.Proximity.{Proximity}
@@ -54,7 +57,7 @@ either-in-range : (t0 t1 : TimePoint) (b : Bool) (x y : Proximity) →
 either-in-range t0 t1 true x y h k = h refl
 either-in-range t0 t1 false x y h k = k refl
 
-else-in-range : (t0 t1 : TimePoint) (x y : Proximity) → InRange t0 t1 x → InRange t0 t1 y → InRange t0 t1 (orElse x y)
+else-in-range : (t0 t1 : TimePoint) (x y : Proximity) → InRange t0 t1 x → InRange t0 t1 y → InRange t0 t1 (orAtEnd x y)
 else-in-range t0 t1 Never y h k = k
 else-in-range t0 t1 (Enters t) y h k = h
 else-in-range t0 t1 (Passes t u) y h k = h
@@ -97,8 +100,8 @@ module _ {agent obstacle : Leg} (a : Accepted agent) (b : Accepted obstacle) whe
   end = range-end-time a b
 
   neither-strays : (t : TimePoint) → isTime t ≡ true → Strays agent t ⊎ Strays obstacle t → ⊥
-  neither-strays t h (inl s) = never-strays (times-given _ _ (a .start-time) (a .end-time)) (time-in-reach t h) s
-  neither-strays t h (inr s) = never-strays (times-given _ _ (b .start-time) (b .end-time)) (time-in-reach t h) s
+  neither-strays t h (inl s) = never-strays (times-given _ _ (a .start-time) (a .end-time)) (time-exact t h) s
+  neither-strays t h (inr s) = never-strays (times-given _ _ (b .start-time) (b .end-time)) (time-exact t h) s
 
   -- ---- A short range: an instant that both legs hold lies in it.
 
@@ -113,11 +116,11 @@ module _ {agent obstacle : Leg} (a : Accepted agent) (b : Accepted obstacle) whe
   -- ---- A range that is not short.
 
   long-in-range : {limit : Float} → Within widest limit → Long agent obstacle → In (longRange limit agent obstacle t0 t1)
-  unfolding longRange crossing
+  unfolding longRange byRoots
   long-in-range {limit} limited long = by (met limit agent obstacle t0)
     where
       by : {m : Meeting} → Met limit agent obstacle t0 m →
-          In (meeting m (λ q. cond (lt (q .a) still) (standing t0 q) (crossing t0 t1 q)))
+          In (withMeeting Refused m (λ q. cond (lt (q .a) hundredMillionth) (withoutMotion t0 q) (byRoots t0 t1 q)))
       by (missed h) = inr (refl, missed-backward agent obstacle h)
       by (astray s) = absurd (neither-strays t0 start s)
       by (both {q} m) =
@@ -129,8 +132,8 @@ module _ {agent obstacle : Leg} (a : Accepted agent) (b : Accepted obstacle) whe
             meeting = m;
           } in
           let in-order = range-in-order m in
-          either-in-range t0 t1 (lt (q .a) still) _ _ (λ f.
-          either-in-range t0 t1 (lt (sizeOf (q .b)) shortest) _ _ (λ g.
+          either-in-range t0 t1 (lt (q .a) hundredMillionth) _ _ (λ f.
+          either-in-range t0 t1 (lt (sizeOf (q .b)) tenThousandth) _ _ (λ g.
           either-in-range t0 t1 (le (q .c) nought) _ _ (λ k. (≤ℤ-refl (t0 .0), in-order)) (λ k. tt))
           (λ g. inl refl)) (λ f.
           either-in-range t0 t1 (lt (radicand (q .a) (q .b) (q .c)) nought) _ _ (λ g. tt) (λ g.

@@ -6,16 +6,16 @@ use mathlib.Core.Bool.{Bool, true, false, cond}
 use lib.Signed.{_<ℤ_}
 use lib.Ieee
 use lib.Ieee.{Float, isNan}
-use Rattle.floats.specs.Order.{_≼_}
-use Rattle.floats.specs.Size.{nought}
+use Rattle.floats.proofs.Relations.{_≼_}
+use Rattle.floats.specs.Constants.{nought}
 use Rattle.floats.specs.Compare.{largerOf, sizeOf}
 use Rattle.floats.specs.Quadratic.{radicand, lower, upper}
-use Rattle.floats.specs.Domain.{still, shortest}
+use Rattle.floats.specs.Constants.{hundredMillionth, tenThousandth}
 use Rattle.floats.proofs.Tests.{passed, failed}
 use Rattle.floats.proofs.Preorder.{left-known}
 use Rattle.floats.proofs.Strict.{not-lt→le}
 use Rattle.floats.proofs.Larger.{larger-not-below}
-use Rattle.numbers.specs.Time.{spanBetween, instantAfterSeconds, secondsOf}
+use Rattle.numbers.specs.Time.{spanBetween, instantAfterSeconds, secondsOf, withSpan, withInstant}
 use Rattle.numbers.specs.declared.time.TimePoint.{TimePoint}
 use Rattle.numbers.specs.declared.time.Duration.{Duration}
 use Rattle.numbers.specs.declared.time.Span.{Span}
@@ -24,15 +24,14 @@ use Rattle.numbers.specs.declared.time.Instant.{Instant}
 use Rattle.numbers.specs.declared.time.Instant.the-variants as I
 use Rattle.numbers.proofs.Answers.{span-made}
 use Rattle.numbers.proofs.Spans.{Since, since-itself, since-after}
-use Rattle.root.specs.Root.{rootOf}
+use Rattle.root.specs.Root.{rootOf, withRoot}
 use Rattle.root.specs.declared.nearest.Root.{Root}
 use Rattle.root.specs.declared.nearest.Root.the-variants as R
 use Rattle.shapes.specs.Leg.{holds}
 use Rattle.shapes.specs.declared.waypoint.Leg.{Leg}
-use Rattle.motions.specs.Quadratic.{meetingFrom}
-use Rattle.proximity.specs.Range.{rangeStart, rangeEnd, isShort, isNear, nearBy, nearAt, orElse, shortRange}
-use Rattle.proximity.specs.Proximity.{spanning, reaching, rooted, meeting}
-use Rattle.proximity.specs.Proximity.{standing, passage, crossing, longRange, proximityOf}
+use Rattle.motions.specs.Quadratic.{meetingFrom, withMeeting}
+use Rattle.proximity.specs.Range.{rangeStart, rangeEnd, isShort, isNear, nearBy, nearAt, orAtEnd, shortRange}
+use Rattle.proximity.specs.Proximity.{withoutMotion, passage, byRoots, longRange, proximityOf}
 use Rattle.motions.specs.declared.motion.Motion.{Motion}
 use Rattle.motions.specs.declared.quadratic.Quadratic.{Quadratic}
 use Rattle.motions.specs.declared.quadratic.Meeting.{Meeting}
@@ -115,7 +114,7 @@ module _ (limit : Float) (agent obstacle : Leg) where
       by : (a b : Bool) (x : Instant) (c : Bool) (y : Instant) →
           Ieee.lt last nought ≡ a → instantAfterSeconds t0 (largerOf nought first) ≡ x →
           Ieee.le last w ≡ c → instantAfterSeconds t0 last ≡ y →
-          From (cond a Never (cond b Never (reaching x (λ t. cond c (reaching y (λ u. Passes t u)) (Enters t)))))
+          From (cond a Never (cond b Never (withInstant (Refused 7) x (λ t. cond c (withInstant (Refused 7) y (λ u. Passes t u)) (Enters t)))))
       by true b x c y f g h k = nothing
       by false true x c y f g h k = nothing
       by false false I.Strayed c y f g h k = lost
@@ -124,13 +123,13 @@ module _ (limit : Float) (agent obstacle : Leg) where
       by false false (I.At t) true (I.At u) f g h k =
           passes (reached t (since-after _ g (larger-not-below first))) (reached u (since-after _ k (exit-not-below last w f h)))
 
-  of-crossing : Leads → (q : Quadratic) → From (crossing t0 t1 q)
-  unfolding crossing
+  of-crossing : Leads → (q : Quadratic) → From (byRoots t0 t1 q)
+  unfolding byRoots
   of-crossing reached q =
       let r = radicand (q .a) (q .b) (q .c) in by (Ieee.lt r nought) (rootOf r) (spanBetween t0 t1)
     where
       by : (b : Bool) (x : Root) (y : Span) →
-          From (cond b Never (rooted x (λ s. spanning y (λ w.
+          From (cond b Never (withRoot (Refused 1) x (λ s. withSpan (Refused 7) y (λ w.
           passage t0 (secondsOf (w .0)) (lower (q .a) (q .b) s) (upper (q .a) (q .b) s)))))
       by true x y = nothing
       by false R.Refused y = rootless
@@ -146,14 +145,14 @@ module _ (limit : Float) (agent obstacle : Leg) where
       stood true false reached = nothing
       stood false b reached = creeping
 
-      moved : (b : Bool) (q : Quadratic) → Leads → From (cond b (standing t0 q) (crossing t0 t1 q))
-      moved true q reached = stood (Ieee.lt (sizeOf (q .b)) shortest) (Ieee.le (q .c) nought) reached
+      moved : (b : Bool) (q : Quadratic) → Leads → From (cond b (withoutMotion t0 q) (byRoots t0 t1 q))
+      moved true q reached = stood (Ieee.lt (sizeOf (q .b)) tenThousandth) (Ieee.le (q .c) nought) reached
       moved false q reached = of-crossing reached q
 
       by : {m : Meeting} → meetingFrom limit agent obstacle t0 ≡ m → Met limit agent obstacle t0 m →
-          From (meeting m (λ q. cond (Ieee.lt (q .a) still) (standing t0 q) (crossing t0 t1 q)))
+          From (withMeeting Refused m (λ q. cond (Ieee.lt (q .a) hundredMillionth) (withoutMotion t0 q) (byRoots t0 t1 q)))
       by e (both {q} m) =
-          moved (Ieee.lt (q .a) still) q (λ t since. record { long = long; quadratic = q; meets = e; since = since })
+          moved (Ieee.lt (q .a) hundredMillionth) q (λ t since. record { long = long; quadratic = q; meets = e; since = since })
       by e (missed h) = apart long (missed-backward agent obstacle h)
       by e (astray h) = lost
 
@@ -161,7 +160,7 @@ module _ (limit : Float) (agent obstacle : Leg) where
   unfolding shortRange
   of-short = by (near-at limit agent obstacle t0) (near-at limit agent obstacle t1)
     where
-      by : {p q : Proximity} → Near agent obstacle t0 p → Near agent obstacle t1 q → From (orElse p q)
+      by : {p q : Proximity} → Near agent obstacle t0 p → Near agent obstacle t1 q → From (orAtEnd p q)
       by (near h k) n = at-end (inl refl) h k
       by far (near h k) = at-end (inr refl) h k
       by far far = nothing
@@ -177,7 +176,7 @@ module _ (limit : Float) (agent obstacle : Leg) where
       ranged d true e h = of-short
       ranged d false e h = of-long (record { width = d; given = e; not-short = h })
 
-      by : (x : Span) → spanBetween t1 t0 ≡ x → From (spanning x (λ d.
+      by : (x : Span) → spanBetween t1 t0 ≡ x → From (withSpan (Refused 7) x (λ d.
           cond (isShort d) (shortRange limit agent obstacle t0 t1) (longRange limit agent obstacle t0 t1)))
       by (S.Of d) e = ranged d (isShort d) e refl
       by S.Strayed e = lost

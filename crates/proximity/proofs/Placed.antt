@@ -4,9 +4,9 @@
 use mathlib.Core.Path.{_≡_, refl}
 use mathlib.Core.Bool.{Bool, true, false, _&&_, cond, true≢false}
 use lib.Ieee.{Float}
-use Rattle.floats.specs.Size.{Within}
-use Rattle.floats.specs.Domain.{farthest, widest}
-use Rattle.numbers.proofs.Reach.{both}
+use Rattle.floats.proofs.Magnitude.{Within}
+use Rattle.floats.proofs.Largest.{farthest, widest}
+use Rattle.numbers.proofs.Exact.{both}
 use Rattle.numbers.proofs.Order.{chosen-has}
 use Rattle.shapes.specs.Leg.{isBackward, isRising}
 use Rattle.limits.specs.Domain.{isTime, isLimit, isLeg}

@@ -6,10 +6,12 @@ use mathlib.Core.Bool.{true, false}
 use lib.Signed.{_≤ℤ_}
 use lib.Ieee.{Float, binary64, mul, lt, le, isNan}
 use lib.Ieee.Fits.{sub-fits}
-use Rattle.floats.specs.Order.{_≼_, Finite}
-use Rattle.floats.specs.Size.{nought, abs, Within}
+use Rattle.floats.proofs.Relations.{_≼_, Finite}
+use Rattle.floats.specs.Constants.{nought}
+use Rattle.floats.proofs.Magnitude.{abs, Within}
 use Rattle.floats.specs.Quadratic.{four, radicand, lower, upper}
-use Rattle.floats.specs.Domain.{longest, widest, still, fastest, remotest, largestA, largestB, largestC, shortest}
+use Rattle.floats.proofs.Largest.{longest, widest, fastest, remotest, largestA, largestB, largestC}
+use Rattle.floats.specs.Constants.{hundredMillionth, tenThousandth}
 use Rattle.floats.proofs.Tests.{failed}
 use Rattle.floats.proofs.Strict.{not-lt→le}
 use Rattle.floats.proofs.NotANumber.{finite-known}
@@ -48,7 +50,7 @@ pub record Posed (limit : Float) (agent obstacle : Leg) (q : Quadratic) : Type 0
 lasts-long : {agent obstacle : Leg} {d : Duration} (leg : Leg) → Long agent obstacle →
     rangeStart agent obstacle .0 ≤ℤ rangeEnd agent obstacle .0 →
     leg .start .time .0 ≤ℤ rangeStart agent obstacle .0 → rangeEnd agent obstacle .0 ≤ℤ leg .end .time .0 →
-    spanBetween (leg .start .time) (leg .end .time) ≡ S.Of d → shortest ≼ secondsOf (d .0)
+    spanBetween (leg .start .time) (leg .end .time) ≡ S.Of d → tenThousandth ≼ secondsOf (d .0)
 lasts-long {d = d} leg long ordered h k lasting =
     wide-seconds (d .0)
     (rw (span-made (leg .start .time) (leg .end .time) d lasting .number) at
@@ -56,12 +58,12 @@ lasts-long {d = d} leg long ordered h k lasting =
 
 module _ {limit : Float} {agent obstacle : Leg} {q : Quadratic} (p : Posed limit agent obstacle q) where
   pub agent-lasts : {d : Duration} →
-      spanBetween (agent .start .time) (agent .end .time) ≡ S.Of d → shortest ≼ secondsOf (d .0)
+      spanBetween (agent .start .time) (agent .end .time) ≡ S.Of d → tenThousandth ≼ secondsOf (d .0)
   agent-lasts =
       lasts-long agent (p .long) (range-in-order (p .meeting)) (starts agent obstacle .first) (ends agent obstacle .first)
 
   pub obstacle-lasts : {d : Duration} →
-      spanBetween (obstacle .start .time) (obstacle .end .time) ≡ S.Of d → shortest ≼ secondsOf (d .0)
+      spanBetween (obstacle .start .time) (obstacle .end .time) ≡ S.Of d → tenThousandth ≼ secondsOf (d .0)
   obstacle-lasts =
       lasts-long obstacle (p .long) (range-in-order (p .meeting)) (starts agent obstacle .second) (ends agent obstacle .second)
 
@@ -74,7 +76,7 @@ record Bounded (s : State) : Type 0 where
   pub velocity-y : Within fastest (s .velocity .y)
 
 bounded : {leg : Leg} {t : TimePoint} {s : State} (m : Moves leg t s) →
-    Placed leg → shortest ≼ secondsOf (m .lasts .0) → Bounded s
+    Placed leg → tenThousandth ≼ secondsOf (m .lasts .0) → Bounded s
 bounded {leg} {t} {s} m p h =
     let lasts = secondsOf (m .lasts .0) in
     let finite : Finite lasts =
@@ -132,6 +134,6 @@ root-not-below {s} a b c e =
     let fits = sub-fits binary64 (mul binary64 b b) (mul binary64 (mul binary64 four a) c) in
     root-fine r s (subst (IsRoot r) e (N.meets r fits)) .not-below
 
-pub ordered : {q : Quadratic} {s : Float} → Sound q → lt (q .a) still ≡ false →
+pub ordered : {q : Quadratic} {s : Float} → Sound q → lt (q .a) hundredMillionth ≡ false →
     rootOf (radicand (q .a) (q .b) (q .c)) ≡ R.Of s → le (lower (q .a) (q .b) s) (upper (q .a) (q .b) s) ≡ true
 ordered {q} {s} h e f = F.roots-in-order s (h .a-within) (h .b-within) e (root-not-below (q .a) (q .b) (q .c) f)

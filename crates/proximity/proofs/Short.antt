@@ -11,8 +11,8 @@ use lib.IntN.{ℤ, pos, negsuc, natAbs, _-ℤ_}
 use lib.Signed.{_≤ℤ_, leZ-yes}
 use lib.Ieee
 use lib.Ieee.{lt, le, ofBits}
-use Rattle.floats.specs.Order.{_≼_, _≺_}
-use Rattle.floats.specs.Domain.{shortest}
+use Rattle.floats.proofs.Relations.{_≼_, _≺_}
+use Rattle.floats.specs.Constants.{tenThousandth}
 use Rattle.floats.proofs.Tests.{is-true}
 use Rattle.floats.proofs.Preorder.{le-trans}
 use Rattle.floats.proofs.Strict.{le-lt-trans, le→not-lt}
@@ -21,31 +21,31 @@ use Rattle.numbers.specs.declared.time.Duration.{Duration}
 use Rattle.numbers.specs.declared.time.Span.the-variants as S
 use Rattle.numbers.proofs.Answers.{span-made}
 use Rattle.numbers.proofs.Integers.{at-most-trans, difference-mono, difference-not-below}
-use Rattle.numbers.proofs.Reach.{size-turned}
+use Rattle.numbers.proofs.Exact.{size-turned}
 use Rattle.numbers.proofs.Seconds.{seconds-mono, seconds-size}
 use Rattle.shapes.specs.declared.waypoint.Leg.{Leg}
 use Rattle.proximity.specs.Range.{rangeStart, rangeEnd, isShort}
 
 -- ---- In seconds: those of 99,999 ns are below 1e-4, and those of 100,000 ns are not.
 
-under : secondsOf (pos 99999) ≺ shortest
+under : secondsOf (pos 99999) ≺ tenThousandth
 unfolding secondsOf Ieee.ofInt Ieee.div ofBits lt
 under = tt
 
-over : shortest ≼ secondsOf (pos 100000)
+over : tenThousandth ≼ secondsOf (pos 100000)
 unfolding secondsOf Ieee.ofInt Ieee.div ofBits le
 over = tt
 
-pub wide-seconds : (z : ℤ) → pos 100000 ≤ℤ z → shortest ≼ secondsOf z
-wide-seconds z h = le-trans shortest (secondsOf (pos 100000)) (secondsOf z) over (seconds-mono (pos 100000) z h)
+pub wide-seconds : (z : ℤ) → pos 100000 ≤ℤ z → tenThousandth ≼ secondsOf z
+wide-seconds z h = le-trans tenThousandth (secondsOf (pos 100000)) (secondsOf z) over (seconds-mono (pos 100000) z h)
 
-short : (n : ℕ) (b : Bool) → ltb n 100000 ≡ b → lt (secondsOf (pos n)) shortest ≡ b
+short : (n : ℕ) (b : Bool) → ltb n 100000 ≡ b → lt (secondsOf (pos n)) tenThousandth ≡ b
 short n true e =
     let s = secondsOf (pos n) in
     let few = seconds-mono (pos n) (pos 99999) (leZ-yes (le→leb n 99999 (omega (arith, ltb-true n 100000 e)))) in
-    is-true (lt s shortest) (le-lt-trans s (secondsOf (pos 99999)) shortest few under)
+    is-true (lt s tenThousandth) (le-lt-trans s (secondsOf (pos 99999)) tenThousandth few under)
 short n false e =
-    le→not-lt shortest (secondsOf (pos n)) (wide-seconds (pos n) (leZ-yes (le→leb 100000 n (ltb-false n 100000 e))))
+    le→not-lt tenThousandth (secondsOf (pos n)) (wide-seconds (pos n) (leZ-yes (le→leb 100000 n (ltb-false n 100000 e))))
 
 pub short-is-under : (d : Duration) → isShort d ≡ ltb (natAbs (d .0)) 100000
 short-is-under d = rw (seconds-size (d .0)) (short (natAbs (d .0)) (ltb (natAbs (d .0)) 100000) refl)

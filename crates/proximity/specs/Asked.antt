@@ -3,6 +3,7 @@
 use mathlib.Core.Bool.{cond, _&&_}
 use mathlib.Core.List.{[], _∷_}
 use lib.Ieee.{Float, binary64, toBits}
+use Rattle.refusals.specs.Names.{NUMBER, SHAPE, BACKWARD, STRAYED}
 use Rattle.lists.specs.Outcome.{Outcome, Gives, Refuses}
 use Rattle.numbers.specs.declared.time.TimePoint.{TimePoint}
 use Rattle.shapes.specs.Leg.{isBackward, isRising}
@@ -22,20 +23,20 @@ use Rattle.proximity.specs.declared.detect.Proximity.the-variants as P
 -- A leg of the agent's at an instant: 1 for its numbers, 3 where it runs backward, then the work.
 unfoldable pub askedPosition : Leg → TimePoint → Whereabouts
 askedPosition leg t =
-    cond (isLeg leg && isTime t) (cond (isBackward leg) (Q.Refused 3) (found (motionAt leg t))) (Q.Refused 1)
+    cond (isLeg leg && isTime t) (cond (isBackward leg) (Q.Refused BACKWARD) (found (motionAt leg t))) (Q.Refused NUMBER)
   where
     found : Motion → Whereabouts
     found (M.At s) = Q.At s
     found M.Outside = Q.Outside
-    found M.Strayed = Q.Refused 7
+    found M.Strayed = Q.Refused STRAYED
 
 -- What is wrong with the agent's leg, an obstacle's leg and a limit: 2 where the obstacle's times do not rise, 1 for the numbers,
 -- 3 where the agent runs backward (RULES 5.1).
 unfoldable pub legsExamined : Float → Leg → Leg → Examined
 legsExamined limit agent obstacle =
     cond (isRising obstacle)
-    (cond (isLeg agent && (isLimit limit && isLeg obstacle)) (cond (isBackward agent) (X.Refused 3) X.Fine) (X.Refused 1))
-    (X.Refused 2)
+    (cond (isLeg agent && (isLimit limit && isLeg obstacle)) (cond (isBackward agent) (X.Refused BACKWARD) X.Fine) (X.Refused NUMBER))
+    (X.Refused SHAPE)
 
 -- Proximity of the two.
 unfoldable pub askedProximity : Float → Leg → Leg → Proximity

@@ -3,9 +3,10 @@
 use mathlib.Core.Bool.{Bool, cond}
 use lib.Ieee
 use lib.Ieee.{Float, binary64}
+use Rattle.refusals.specs.Names.{STRAYED}
 use Rattle.floats.specs.Quadratic.{dot}
 use Rattle.floats.specs.Compare.{sizeOf}
-use Rattle.floats.specs.Domain.{shortest}
+use Rattle.floats.specs.Constants.{tenThousandth}
 use Rattle.numbers.specs.Time.{laterOf, earlierOf, secondsOf}
 use Rattle.numbers.specs.declared.time.TimePoint.{TimePoint}
 use Rattle.numbers.specs.declared.time.Duration.{Duration}
@@ -26,7 +27,7 @@ rangeEnd agent obstacle = earlierOf (agent .end .time) (obstacle .end .time)
 
 -- Under 100,000 ns, which is 1e-4 s, gaps included (RULES 8.6).
 abbrev pub isShort : Duration → Bool
-isShort d = Ieee.lt (sizeOf (secondsOf (d .0))) shortest
+isShort d = Ieee.lt (sizeOf (secondsOf (d .0))) tenThousandth
 
 -- The squared distance is at most the limit (RULES 8.7).
 abbrev pub isNear : Float → Vector → Vector → Bool
@@ -39,22 +40,22 @@ isNear limit p q =
 abbrev pub nearBy : Float → Motion → Motion → TimePoint → Proximity
 nearBy limit (At p) (At q) t = cond (isNear limit (p .place) (q .place)) (Enters t) Never
 nearBy limit (At p) Outside t = Never
-nearBy limit (At p) Strayed t = Refused 7
+nearBy limit (At p) Strayed t = Refused STRAYED
 nearBy limit Outside (At q) t = Never
 nearBy limit Outside Outside t = Never
-nearBy limit Outside Strayed t = Refused 7
-nearBy limit Strayed other t = Refused 7
+nearBy limit Outside Strayed t = Refused STRAYED
+nearBy limit Strayed other t = Refused STRAYED
 
 unfoldable pub nearAt : Float → Leg → Leg → TimePoint → Proximity
 nearAt limit agent obstacle t = nearBy limit (motionAt agent t) (motionAt obstacle t) t
 
 -- The first of two answers that says something.
-abbrev pub orElse : Proximity → Proximity → Proximity
-orElse Never second = second
-orElse (Enters t) second = Enters t
-orElse (Passes t u) second = Passes t u
-orElse (Refused n) second = Refused n
+abbrev pub orAtEnd : Proximity → Proximity → Proximity
+orAtEnd Never second = second
+orAtEnd (Enters t) second = Enters t
+orAtEnd (Passes t u) second = Passes t u
+orAtEnd (Refused n) second = Refused n
 
 -- Each end in turn, the range's start first (RULES 8.7).
 unfoldable pub shortRange : Float → Leg → Leg → TimePoint → TimePoint → Proximity
-shortRange limit agent obstacle t0 t1 = orElse (nearAt limit agent obstacle t0) (nearAt limit agent obstacle t1)
+shortRange limit agent obstacle t0 t1 = orAtEnd (nearAt limit agent obstacle t0) (nearAt limit agent obstacle t1)

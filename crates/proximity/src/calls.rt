@@ -23,19 +23,19 @@ pub fn position(leg: Leg, t: TimePoint) -> Whereabouts
     ensures { λ r. ⌜ r ≡ askedPosition leg t ⌝ }
 {
     if !domain::is_leg(leg) {
-        return Whereabouts::Refused(1);
+        return Whereabouts::Refused(refusals::NUMBER);
     }
     if !domain::is_time(t) {
-        return Whereabouts::Refused(1);
+        return Whereabouts::Refused(refusals::NUMBER);
     }
     if leg.is_backward() {
-        return Whereabouts::Refused(3);
+        return Whereabouts::Refused(refusals::BACKWARD);
     }
     let found = motion::motion_at(leg, t);
     match found {
         Motion::At(s) => Whereabouts::At(s),
         Motion::Outside => Whereabouts::Outside,
-        Motion::Strayed => Whereabouts::Refused(7),
+        Motion::Strayed => Whereabouts::Refused(refusals::STRAYED),
     }
 }
 
@@ -44,19 +44,19 @@ pub fn examine_legs(limit: f64, agent: Leg, obstacle: Leg) -> Examined
     ensures { λ r. ⌜ r ≡ legsExamined limit agent obstacle ⌝ }
 {
     if !obstacle.is_rising() {
-        return Examined::Refused(2);
+        return Examined::Refused(refusals::SHAPE);
     }
     if !domain::is_leg(agent) {
-        return Examined::Refused(1);
+        return Examined::Refused(refusals::NUMBER);
     }
     if !domain::is_limit(limit) {
-        return Examined::Refused(1);
+        return Examined::Refused(refusals::NUMBER);
     }
     if !domain::is_leg(obstacle) {
-        return Examined::Refused(1);
+        return Examined::Refused(refusals::NUMBER);
     }
     if agent.is_backward() {
-        return Examined::Refused(3);
+        return Examined::Refused(refusals::BACKWARD);
     }
     Examined::Fine
 }

@@ -14,7 +14,7 @@ use shapes::vector::Vector;
 use shapes::waypoint::Leg;
 ghost use mathlib.Core.Path.{_≡_};
 ghost use Rattle.proximity.specs.Range.{rangeStart, rangeEnd, isNear, nearAt, shortRange};
-ghost use Rattle.proximity.specs.Proximity.{entryOf, standing, passage, crossing, longRange, proximityOf};
+ghost use Rattle.proximity.specs.Proximity.{entryOf, withoutMotion, passage, byRoots, longRange, proximityOf};
 
 // Never near, near from an instant on, near from one to another, or a refusal and its number.
 pub enum Proximity {
@@ -73,15 +73,15 @@ fn near_at(limit: f64, agent: Leg, obstacle: Leg, t: TimePoint) -> Proximity
     let first = motion::motion_at(agent, t);
     let second = motion::motion_at(obstacle, t);
     match first {
-        Motion::Strayed => Proximity::Refused(7),
+        Motion::Strayed => Proximity::Refused(refusals::STRAYED),
         Motion::Outside => {
             if let Motion::Strayed = second {
-                return Proximity::Refused(7);
+                return Proximity::Refused(refusals::STRAYED);
             }
             Proximity::Never
         }
         Motion::At(p) => match second {
-            Motion::Strayed => Proximity::Refused(7),
+            Motion::Strayed => Proximity::Refused(refusals::STRAYED),
             Motion::Outside => Proximity::Never,
             Motion::At(q) => {
                 if is_near(limit, p.place, q.place) {
@@ -105,8 +105,8 @@ fn short_range(limit: f64, agent: Leg, obstacle: Leg, t0: TimePoint, t1: TimePoi
 }
 
 // Legs that hardly move against one another: near from the range's start on, or never.
-fn standing(t0: TimePoint, q: Quadratic) -> Proximity
-    ensures { λ r. ⌜ r ≡ standing t0 q ⌝ }
+fn without_motion(t0: TimePoint, q: Quadratic) -> Proximity
+    ensures { λ r. ⌜ r ≡ withoutMotion t0 q ⌝ }
 {
     if comparison::size(q.b) < 1e-4 {
         if q.c <= 0.0 {
@@ -114,7 +114,7 @@ fn standing(t0: TimePoint, q: Quadratic) -> Proximity
         }
         return Proximity::Never;
     }
-    Proximity::Refused(5)
+    Proximity::Refused(refusals::CREEP)
 }
 
 // The entry and the exit that the two roots give, in a range of w seconds from t0 on.
@@ -129,12 +129,12 @@ fn passage(t0: TimePoint, w: f64, lower: f64, upper: f64) -> Proximity
     }
     let near = t0.plus_secs_f64(comparison::larger(0.0, lower));
     let Instant::At(enter) = near else {
-        return Proximity::Refused(7);
+        return Proximity::Refused(refusals::STRAYED);
     };
     if upper <= w {
         let far = t0.plus_secs_f64(upper);
         let Instant::At(exit) = far else {
-            return Proximity::Refused(7);
+            return Proximity::Refused(refusals::STRAYED);
         };
         return Proximity::Passes(enter, exit);
     }
@@ -142,8 +142,8 @@ fn passage(t0: TimePoint, w: f64, lower: f64, upper: f64) -> Proximity
 }
 
 // Legs that move against one another: the roots of the quadratic say when.
-fn crossing(t0: TimePoint, t1: TimePoint, q: Quadratic) -> Proximity
-    ensures { λ r. ⌜ r ≡ crossing t0 t1 q ⌝ }
+fn by_roots(t0: TimePoint, t1: TimePoint, q: Quadratic) -> Proximity
+    ensures { λ r. ⌜ r ≡ byRoots t0 t1 q ⌝ }
 {
     let radicand = q.b * q.b - (4.0 * q.a) * q.c;
     if radicand < 0.0 {
@@ -151,11 +151,11 @@ fn crossing(t0: TimePoint, t1: TimePoint, q: Quadratic) -> Proximity
     }
     let root = nearest::square_root(radicand);
     let Root::Of(s) = root else {
-        return Proximity::Refused(1);
+        return Proximity::Refused(refusals::NUMBER);
     };
     let width = t1.since(t0);
     let Span::Of(w) = width else {
-        return Proximity::Refused(7);
+        return Proximity::Refused(refusals::STRAYED);
     };
     let lower = (-q.b - s) / (2.0 * q.a);
     let upper = (-q.b + s) / (2.0 * q.a);
@@ -171,9 +171,9 @@ fn long_range(limit: f64, agent: Leg, obstacle: Leg, t0: TimePoint, t1: TimePoin
         Meeting::Refused(n) => Proximity::Refused(n),
         Meeting::Of(q) => {
             if q.a < 1e-8 {
-                return standing(t0, q);
+                return without_motion(t0, q);
             }
-            crossing(t0, t1, q)
+            by_roots(t0, t1, q)
         }
     }
 }
@@ -186,7 +186,7 @@ pub fn detect_proximity(limit: f64, agent: Leg, obstacle: Leg) -> Proximity
     let t1 = range_end(agent, obstacle);
     let gap = t0.since(t1);
     let Span::Of(d) = gap else {
-        return Proximity::Refused(7);
+        return Proximity::Refused(refusals::STRAYED);
     };
     if comparison::size(d.as_secs_f64()) < 1e-4 {
         return short_range(limit, agent, obstacle, t0, t1);

@@ -7,13 +7,13 @@ use mathlib.Mathlib.Data.Bool.Basic.{eq-false-of-not-eq-true}
 use lib.IntN.{ℤ}
 use lib.Signed.{ltZ, _≤ℤ_, _<ℤ_, ltZ-yes, ltZ-no, clashℤ, <ℤ-≤ℤ-trans}
 use lib.Ieee.{Float, lt}
-use Rattle.floats.specs.Order.{Known}
+use Rattle.floats.proofs.Relations.{Known}
 use Rattle.floats.proofs.Tests.{passed, failed, is-true}
 use Rattle.floats.proofs.Preorder.{le-trans}
 use Rattle.floats.proofs.Strict.{lt→le, le→not-lt, not-lt→le}
 use Rattle.numbers.proofs.Integers.{below→at-most, at-most→not-below, at-most-trans, below-or-at-most}
 use Rattle.ranking.specs.declared.order.RankedHint.{RankedHint}
-use Rattle.ranking.specs.Ranked.{before, isKnown}
+use Rattle.ranking.specs.Ranked.{goesBefore, isKnown}
 
 at-most-below : (x y z : ℤ) → x ≤ℤ y → y <ℤ z → x <ℤ z
 at-most-below x y z h k = elim (below-or-at-most x z) [ inl l ↦ l | inr g ↦ clashℤ k (at-most-trans z x y g h) ]
@@ -33,8 +33,8 @@ late h = h .contour .0
 abbrev Behind : RankedHint → RankedHint → Type 0
 Behind a b = (late a <ℤ late b) ⊎ ((late a ≤ℤ late b) × (lt (b .reach) (a .reach) ≡ false))
 
-behind : (a b : RankedHint) → before b a ≡ false → Behind a b
-unfolding before
+behind : (a b : RankedHint) → goesBefore b a ≡ false → Behind a b
+unfolding goesBefore
 behind a b = by (ltZ (late b) (late a)) (ltZ (late a) (late b)) refl refl
   where
     by : (p q : Bool) → ltZ (late b) (late a) ≡ p → ltZ (late a) (late b) ≡ q →
@@ -43,8 +43,8 @@ behind a b = by (ltZ (late b) (late a)) (ltZ (late a) (late b)) refl refl
     by false true e f h = inl (ltZ-yes (passed f))
     by false false e f h = inr (ltZ-no (failed e), h)
 
-not-before : (a b : RankedHint) → Behind a b → before b a ≡ false
-unfolding before
+not-before : (a b : RankedHint) → Behind a b → goesBefore b a ≡ false
+unfolding goesBefore
 not-before a b (inl l) =
     rw (at-most→not-below (late a) (late b) (below→at-most _ _ (l .lt)), is-true (ltZ (late a) (late b)) (l .lt))
 not-before a b (inr (e, h)) = rw (at-most→not-below (late a) (late b) e, h) (by (ltZ (late a) (late b)))
@@ -54,8 +54,8 @@ not-before a b (inr (e, h)) = rw (at-most→not-below (late a) (late b) e, h) (b
     by false = refl
 
 -- What goes before is not gone before,
-pub before-asym : (a b : RankedHint) → before a b ≡ true → before b a ≡ false
-unfolding before
+pub before-asym : (a b : RankedHint) → goesBefore a b ≡ true → goesBefore b a ≡ false
+unfolding goesBefore
 before-asym a b h = not-before a b (by (ltZ (late a) (late b)) (ltZ (late b) (late a)) refl refl h)
   where
     by : (p q : Bool) → ltZ (late a) (late b) ≡ p → ltZ (late b) (late a) ≡ q →
@@ -65,20 +65,20 @@ before-asym a b h = not-before a b (by (ltZ (late a) (late b)) (ltZ (late b) (la
     by false false e f h = inr (ltZ-no (failed f), lt-asym (a .reach) (b .reach) h)
 
 -- and nothing goes before itself.
-pub before-self : (a : RankedHint) → before a a ≡ false
-before-self a = eq-false-of-not-eq-true (λ (h : before a a ≡ true). true≢false (sym h ∙ before-asym a a h))
+pub before-self : (a : RankedHint) → goesBefore a a ≡ false
+before-self a = eq-false-of-not-eq-true (λ (h : goesBefore a a ≡ true). true≢false (sym h ∙ before-asym a a h))
 
 -- Of two hints one does not go before the other,
-pub before-total : (a b : RankedHint) → (before b a ≡ false) ⊎ (before a b ≡ false)
-before-total a b = by (before b a) refl
+pub before-total : (a b : RankedHint) → (goesBefore b a ≡ false) ⊎ (goesBefore a b ≡ false)
+before-total a b = by (goesBefore b a) refl
   where
-    by : (t : Bool) → before b a ≡ t → (before b a ≡ false) ⊎ (before a b ≡ false)
+    by : (t : Bool) → goesBefore b a ≡ t → (goesBefore b a ≡ false) ⊎ (goesBefore a b ≡ false)
     by true e = inr (before-asym b a e)
     by false e = inl e
 
 -- and where b does not go before a, nor c before b, c does not go before a.
 pub before-trans : (a b c : RankedHint) → isKnown a ≡ true → isKnown b ≡ true → isKnown c ≡ true →
-    before b a ≡ false → before c b ≡ false → before c a ≡ false
+    goesBefore b a ≡ false → goesBefore c b ≡ false → goesBefore c a ≡ false
 before-trans a b c p q r h k = not-before a c (by (behind a b h) (behind b c k))
   where
     by : Behind a b → Behind b c → Behind a c

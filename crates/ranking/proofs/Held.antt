@@ -12,8 +12,8 @@ use lib.Ieee.{nan}
 use lib.ListN.{length, take, getD, length-replicate}
 use Rattle.lists.specs.Listed.{listed, listedTo}
 use Rattle.lists.proofs.Listed.{listed-done, listed-next, listed-shift}
-use Rattle.ranking.specs.Ranked.{before, sorted}
-use Rattle.ranking.specs.Hints.{blank, refusedBy, noHints, held}
+use Rattle.ranking.specs.Ranked.{goesBefore, sorted}
+use Rattle.ranking.specs.Hints.{blankRanked, rankedRefused, noRanked, rankedHeld}
 use Rattle.ranking.specs.declared.order.RankedHint.{RankedHint}
 use Rattle.ranking.specs.declared.ranked_hints.RankedHints.{RankedHints}
 
@@ -38,19 +38,19 @@ take-listed d (suc n) (x ∷ l) h =
     ap (λ r. x ∷ r) (take-listed d n l (le-of-suc-le-suc h) ∙ sym (listed-shift (λ i. getD (x ∷ l) i d) n 0))
 
 -- The hints are the places below the count.
-pub held-listed : (list : RankedHints) → list .count ≤ length (list .all) → held list ≡ listedTo (at list) (list .count) 0
-unfolding held
+pub held-listed : (list : RankedHints) → list .count ≤ length (list .all) → rankedHeld list ≡ listedTo (at list) (list .count) 0
+unfolding rankedHeld
 held-listed list h =
     take-listed past (list .count) (list .all) h ∙ ap (λ n. listed (at list) n 0) (sym (sub-zero (list .count)))
 
 -- A test of neighbours: one goes before the one in front of it, or it does not and the rest decide, or there is none behind.
 pub sorted-fails : (f : ℕ → RankedHint) (end i : ℕ) →
-    i + 1 < end → before (f (i + 1)) (f i) ≡ true → sorted (listedTo f end i) ≡ false
+    i + 1 < end → goesBefore (f (i + 1)) (f i) ≡ true → sorted (listedTo f end i) ≡ false
 unfolding sorted
 sorted-fails f end i h e = rw (listed-next f end i (omega arith), listed-next f end (i + 1) h, e)
 
 pub sorted-passes : (f : ℕ → RankedHint) (end i : ℕ) →
-    i + 1 < end → before (f (i + 1)) (f i) ≡ false → sorted (listedTo f end i) ≡ sorted (listedTo f end (i + 1))
+    i + 1 < end → goesBefore (f (i + 1)) (f i) ≡ false → sorted (listedTo f end i) ≡ sorted (listedTo f end (i + 1))
 unfolding sorted
 sorted-passes f end i h e = rw (listed-next f end i (omega arith), listed-next f end (i + 1) h, e)
 
@@ -66,8 +66,8 @@ pub record Holds (list : RankedHints) (l : List RankedHint) : Type 0 where
   pub unrefused : list .refused ≡ 0
   pub counted : list .count ≡ length l
   pub long : length (list .all) ≡ 64
-  pub these : held list ≡ l
+  pub these : rankedHeld list ≡ l
 
-pub holds-none : Holds noHints []
-unfolding noHints refusedBy held
-holds-none = record { unrefused = refl; counted = refl; long = length-replicate 64 blank; these = refl }
+pub holds-none : Holds noRanked []
+unfolding noRanked rankedRefused rankedHeld
+holds-none = record { unrefused = refl; counted = refl; long = length-replicate 64 blankRanked; these = refl }

@@ -7,20 +7,20 @@ use mathlib.Mathlib.Data.Bool.Basic.{eq-false-of-not-eq-true}
 use native.Mathlib.Omega.{arith}
 use borrow.Author.Tests.{not-true}
 use lib.ListN.{length}
-use Rattle.numbers.proofs.Reach.{both}
+use Rattle.numbers.proofs.Exact.{both}
 use Rattle.ranking.specs.declared.order.RankedHint.{RankedHint}
-use Rattle.ranking.specs.Ranked.{before, inserted, sorted, those, Permuted, level, isKnown}
+use Rattle.ranking.specs.Ranked.{goesBefore, inserted, sorted, those, Permuted, areLevel, isKnown}
 use Rattle.ranking.proofs.Before.{before-asym, before-trans}
 use Rattle.ranking.proofs.Those.{Each, first, rest, in-front, none-there, count-first}
 use Rattle.ranking.proofs.Sorted.{leads, sorted-first, first-leads, sorted-rest, not-before-first}
 
 -- h stands in front of x, or x in front of the others with h among them.
 pub by-place : (P : List RankedHint → Type 0) (h x : RankedHint) (l : List RankedHint) →
-    (before h x ≡ true → P (h ∷ (x ∷ l))) → (before h x ≡ false → P (x ∷ inserted h l)) → P (inserted h (x ∷ l))
+    (goesBefore h x ≡ true → P (h ∷ (x ∷ l))) → (goesBefore h x ≡ false → P (x ∷ inserted h l)) → P (inserted h (x ∷ l))
 unfolding inserted
-by-place P h x l here further = by (before h x) refl
+by-place P h x l here further = by (goesBefore h x) refl
   where
-    by : (b : Bool) → before h x ≡ b → P (cond b (h ∷ (x ∷ l)) (x ∷ inserted h l))
+    by : (b : Bool) → goesBefore h x ≡ b → P (cond b (h ∷ (x ∷ l)) (x ∷ inserted h l))
     by true e = here e
     by false e = further e
 
@@ -42,7 +42,7 @@ count-inserted test h (x ∷ l) =
 pub inserted-permuted : (h : RankedHint) (l : List RankedHint) → Permuted (inserted h l) (h ∷ l)
 inserted-permuted h l = record { as-many = λ test. count-inserted test h l }
 
-leads-inserted : (h x : RankedHint) (l : List RankedHint) → before h x ≡ false → leads x l ≡ true → leads x (inserted h l) ≡ true
+leads-inserted : (h x : RankedHint) (l : List RankedHint) → goesBefore h x ≡ false → leads x l ≡ true → leads x (inserted h l) ≡ true
 leads-inserted h x [] e f = unfold inserted in rw e
 leads-inserted h x (y ∷ l) e f = by-place (λ m. leads x m ≡ true) h y l (λ b. rw e) (λ b. f)
 
@@ -61,32 +61,32 @@ inserted-sorted h (x ∷ l) e =
 -- Where h is level with k and goes before the first of a list in order, none in it is level with k.
 pub none-level : (k h x : RankedHint) (l : List RankedHint) →
     isKnown k ≡ true → isKnown h ≡ true → Each isKnown (x ∷ l) → sorted (x ∷ l) ≡ true →
-    level k h ≡ true → before h x ≡ true → those (level k) (x ∷ l) ≡ []
+    areLevel k h ≡ true → goesBefore h x ≡ true → those (areLevel k) (x ∷ l) ≡ []
 none-level k h x l kk kh kl e f b =
-    none-there (level k) (x ∷ l) (λ y m. eq-false-of-not-eq-true (λ (t : level k y ≡ true). true≢false (sym b ∙ behind y m t)))
+    none-there (areLevel k) (x ∷ l) (λ y m. eq-false-of-not-eq-true (λ (t : areLevel k y ≡ true). true≢false (sym b ∙ behind y m t)))
   where
-    behind : (y : RankedHint) → List·Memᴰ y (x ∷ l) → level k y ≡ true → before h x ≡ false
+    behind : (y : RankedHint) → List·Memᴰ y (x ∷ l) → areLevel k y ≡ true → goesBefore h x ≡ false
     behind y m t =
         let kx = first kl in
-        let k-y = not-true (before k y) (both (not (before k y)) (not (before y k)) t .0) in
-        let h-k = not-true (before h k) (both (not (before k h)) (not (before h k)) f .1) in
+        let k-y = not-true (goesBefore k y) (both (not (goesBefore k y)) (not (goesBefore y k)) t .0) in
+        let h-k = not-true (goesBefore h k) (both (not (goesBefore k h)) (not (goesBefore h k)) f .1) in
         before-trans x k h kx kk kh (before-trans x y k kx (kl y m) kk (not-before-first x l kl e y m) k-y) h-k
 
 -- Those level with k are as they were, and h is behind them where it is one.
 pub inserted-stable : (k h : RankedHint) (l : List RankedHint) →
     isKnown k ≡ true → isKnown h ≡ true → Each isKnown l → sorted l ≡ true →
-    those (level k) (inserted h l) ≡ those (level k) l ++ those (level k) (h ∷ [])
+    those (areLevel k) (inserted h l) ≡ those (areLevel k) l ++ those (areLevel k) (h ∷ [])
 unfolding those
 inserted-stable k h [] kk kh kl e = unfold inserted in refl
 inserted-stable k h (x ∷ l) kk kh kl e =
     let others = inserted-stable k h l kk kh (rest kl) (sorted-rest x l e) in
     by-place
-    (λ m. those (level k) m ≡ those (level k) (x ∷ l) ++ those (level k) (h ∷ []))
+    (λ m. those (areLevel k) m ≡ those (areLevel k) (x ∷ l) ++ those (areLevel k) (h ∷ []))
     h
     x
     l
-    (λ b. alone (level k h) (those (level k) (x ∷ l)) (λ f. none-level k h x l kk kh kl e f b))
-    (λ b. in-front (level k x) x _ _ _ others)
+    (λ b. alone (areLevel k h) (those (areLevel k) (x ∷ l)) (λ f. none-level k h x l kk kh kl e f b))
+    (λ b. in-front (areLevel k x) x _ _ _ others)
   where
     alone : (b : Bool) (m : List RankedHint) → (b ≡ true → m ≡ []) → cond b (h ∷ m) m ≡ m ++ cond b (h ∷ []) []
     alone true m f = rw (f refl)

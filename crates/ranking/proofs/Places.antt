@@ -11,8 +11,8 @@ use lib.ListN.{length, take, drop, set, getD, length-set, drop-of-length-le}
 use lib.Seq.{length-take-le, take-suc, drop-cons, append-snoc, set-split, getD-set-same, take-set-le, drop-set-lt}
 use lib.Seq.{getD-take, take-at, drop-at}
 use Rattle.ranking.specs.declared.order.RankedHint.{RankedHint}
-use Rattle.ranking.specs.Ranked.{before, inserted}
-use Rattle.ranking.specs.Hints.{placeOf}
+use Rattle.ranking.specs.Ranked.{goesBefore, inserted}
+use Rattle.ranking.specs.Hints.{rankOf}
 use Rattle.ranking.proofs.Inserted.{by-place}
 
 -- ---- What is left at place i.
@@ -29,30 +29,30 @@ module _ (l : List RankedHint) (n i : ℕ) (room : n ≤ length l) where
       let all : length (take n l) ≡ n = length-take-le n l room in drop-of-length-le (take n l) {i = i} (omega arith)
 
   -- The place of a hint is here, or further on, or behind all.
-  pub place-here : (h d : RankedHint) → i < n → before h (getD l i d) ≡ true → placeOf h (drop i (take n l)) ≡ 0
-  unfolding placeOf
+  pub place-here : (h d : RankedHint) → i < n → goesBefore h (getD l i d) ≡ true → rankOf h (drop i (take n l)) ≡ 0
+  unfolding rankOf
   place-here h d b e = rw (from d b, e)
 
-  pub place-next : (h d : RankedHint) → i < n → before h (getD l i d) ≡ false →
-      placeOf h (drop i (take n l)) ≡ placeOf h (drop (i + 1) (take n l)) + 1
-  unfolding placeOf
+  pub place-next : (h d : RankedHint) → i < n → goesBefore h (getD l i d) ≡ false →
+      rankOf h (drop i (take n l)) ≡ rankOf h (drop (i + 1) (take n l)) + 1
+  unfolding rankOf
   place-next h d b e = rw (from d b, e)
 
-  pub place-end : (h : RankedHint) → n ≤ i → placeOf h (drop i (take n l)) ≡ 0
-  unfolding placeOf
+  pub place-end : (h : RankedHint) → n ≤ i → rankOf h (drop i (take n l)) ≡ 0
+  unfolding rankOf
   place-end h b = rw (none-left b)
 
-place-at-most : (h : RankedHint) (l : List RankedHint) → placeOf h l ≤ length l
-unfolding placeOf
+place-at-most : (h : RankedHint) (l : List RankedHint) → rankOf h l ≤ length l
+unfolding rankOf
 place-at-most h [] = omega arith
-place-at-most h (x ∷ l) = by (before h x) (place-at-most h l)
+place-at-most h (x ∷ l) = by (goesBefore h x) (place-at-most h l)
   where
-    by : (b : Bool) → placeOf h l ≤ length l → cond b 0 (placeOf h l + 1) ≤ suc (length l)
+    by : (b : Bool) → rankOf h l ≤ length l → cond b 0 (rankOf h l + 1) ≤ suc (length l)
     by true p = omega arith
     by false p = omega arith
 
 -- At most all n are in front of it.
-pub place-in : (h : RankedHint) (l : List RankedHint) (n : ℕ) → n ≤ length l → placeOf h (take n l) ≤ n
+pub place-in : (h : RankedHint) (l : List RankedHint) (n : ℕ) → n ≤ length l → rankOf h (take n l) ≤ n
 place-in h l n room = omega (arith, place-at-most h (take n l), length-take-le n l room)
 
 -- ---- Room for one more.
@@ -90,20 +90,20 @@ set-put a j h b =
     let all : length (take j a) ≡ j = length-take-le j a (omega arith) in
     rw (take-at (take j a) (drop (j + 1) a) j all, drop-at (take j a) (drop (j + 1) a) j all, add-one j) (set-split a j h b)
 
-put-inserted : (h : RankedHint) (l r : List RankedHint) → put (placeOf h l) h (l ++ r) ≡ inserted h l ++ r
-unfolding placeOf
+put-inserted : (h : RankedHint) (l r : List RankedHint) → put (rankOf h l) h (l ++ r) ≡ inserted h l ++ r
+unfolding rankOf
 put-inserted h [] r = unfold inserted in refl
 put-inserted h (x ∷ l) r =
     by-place
-    (λ m. put (placeOf h (x ∷ l)) h (x ∷ (l ++ r)) ≡ m ++ r)
+    (λ m. put (rankOf h (x ∷ l)) h (x ∷ (l ++ r)) ≡ m ++ r)
     h
     x
     l
     (λ b. rw b)
-    (λ b. rw (b, add-one (placeOf h l)) (ap (λ (t : List RankedHint). x ∷ t) (put-inserted h l r)))
+    (λ b. rw (b, add-one (rankOf h l)) (ap (λ (t : List RankedHint). x ∷ t) (put-inserted h l r)))
 
 -- Where the gap is at the place of h, that is h put at its place.
 pub room-filled : (h : RankedHint) (all a : List RankedHint) (n j : ℕ) →
-    j ≡ placeOf h (take n all) → j < length a → without j a ≡ without n all →
+    j ≡ rankOf h (take n all) → j < length a → without j a ≡ without n all →
     set a j h ≡ inserted h (take n all) ++ drop (n + 1) all
 room-filled h all a n j p b e = set-put a j h b ∙ rw (e, p) (put-inserted h (take n all) (drop (n + 1) all))

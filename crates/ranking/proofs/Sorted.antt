@@ -5,16 +5,16 @@ use mathlib.Core.Logic.{⊎-elim}
 use mathlib.Core.Bool.{Bool, true, false, not, _&&_}
 use mathlib.Core.List.{List, [], _∷_, List·Memᴰ, List·Memᴰ·not-nil, List·Memᴰ·cases-cons}
 use borrow.Author.Tests.{not-true}
-use Rattle.numbers.proofs.Reach.{both}
+use Rattle.numbers.proofs.Exact.{both}
 use Rattle.ranking.specs.declared.order.RankedHint.{RankedHint}
-use Rattle.ranking.specs.Ranked.{before, sorted, isKnown}
+use Rattle.ranking.specs.Ranked.{goesBefore, sorted, isKnown}
 use Rattle.ranking.proofs.Before.{before-self, before-trans}
 use Rattle.ranking.proofs.Those.{Each, first, rest}
 
 -- The first of l does not go before x.
 abbrev pub leads : RankedHint → List RankedHint → Bool
 leads x [] = true
-leads x (y ∷ l) = not (before y x)
+leads x (y ∷ l) = not (goesBefore y x)
 
 pub sorted-first : (x : RankedHint) (l : List RankedHint) → sorted (x ∷ l) ≡ (leads x l && sorted l)
 unfolding sorted
@@ -28,10 +28,10 @@ pub sorted-rest : (x : RankedHint) (l : List RankedHint) → sorted (x ∷ l) �
 sorted-rest x l e = both (leads x l) (sorted l) (sym (sorted-first x l) ∙ e) .1
 
 later-not-before : (x : RankedHint) (l : List RankedHint) →
-    Each isKnown (x ∷ l) → sorted (x ∷ l) ≡ true → (y : RankedHint) → List·Memᴰ y l → before y x ≡ false
+    Each isKnown (x ∷ l) → sorted (x ∷ l) ≡ true → (y : RankedHint) → List·Memᴰ y l → goesBefore y x ≡ false
 later-not-before x [] k e y m = absurd (List·Memᴰ·not-nil m)
 later-not-before x (z ∷ l) k e y m =
-    let next : before z x ≡ false = not-true (before z x) (first-leads x (z ∷ l) e) in
+    let next : goesBefore z x ≡ false = not-true (goesBefore z x) (first-leads x (z ∷ l) e) in
     let others = later-not-before z l (rest k) (sorted-rest x (z ∷ l) e) y in
     ⊎-elim
     (λ (s : y ≡ z). rw s next)
@@ -39,6 +39,6 @@ later-not-before x (z ∷ l) k e y m =
     (List·Memᴰ·cases-cons m)
 
 pub not-before-first : (x : RankedHint) (l : List RankedHint) →
-    Each isKnown (x ∷ l) → sorted (x ∷ l) ≡ true → (y : RankedHint) → List·Memᴰ y (x ∷ l) → before y x ≡ false
+    Each isKnown (x ∷ l) → sorted (x ∷ l) ≡ true → (y : RankedHint) → List·Memᴰ y (x ∷ l) → goesBefore y x ≡ false
 not-before-first x l k e y m =
     ⊎-elim (λ (s : y ≡ x). rw s (before-self x)) (later-not-before x l k e y) (List·Memᴰ·cases-cons m)

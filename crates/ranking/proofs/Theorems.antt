@@ -11,7 +11,7 @@ use native.Mathlib.Omega.{arith}
 use lib.ListN.{length, getD}
 use Rattle.lists.specs.Listed.{every}
 use Rattle.ranking.specs.declared.order.RankedHint.{RankedHint}
-use Rattle.ranking.specs.Ranked.{before, inserted, onto, ranked, sorted, those, Permuted, level, isKnown, Stable, Ranking}
+use Rattle.ranking.specs.Ranked.{goesBefore, inserted, rankedOnto, ranked, sorted, those, Permuted, areLevel, isKnown, Stable, Ranking}
 use Rattle.ranking.proofs.Before.{before-self}
 use Rattle.ranking.proofs.Those.{Each, first, rest, with-one, each, in-front, count-first, each-permuted}
 use Rattle.ranking.proofs.Sorted.{sorted-rest, not-before-first}
@@ -22,8 +22,8 @@ unfolding those
 none test = refl
 
 count-onto : (test : RankedHint → Bool) (done l : List RankedHint) →
-    length (those test (onto done l)) ≡ length (those test done) + length (those test l)
-unfolding onto
+    length (those test (rankedOnto done l)) ≡ length (those test done) + length (those test l)
+unfolding rankedOnto
 count-onto test done [] = omega (arith, ap length (none test))
 count-onto test done (h ∷ l) =
     let others = count-onto test (inserted h done) l in
@@ -34,8 +34,8 @@ count-onto test done (h ∷ l) =
 pub ranked-permuted : (l : List RankedHint) → Permuted (ranked l) l
 ranked-permuted l = record { as-many = λ test. omega (arith, ap length (none test), count-onto test [] l) }
 
-sorted-onto : (done l : List RankedHint) → sorted done ≡ true → sorted (onto done l) ≡ true
-unfolding onto
+sorted-onto : (done l : List RankedHint) → sorted done ≡ true → sorted (rankedOnto done l) ≡ true
+unfolding rankedOnto
 sorted-onto done [] e = e
 sorted-onto done (h ∷ l) e = sorted-onto (inserted h done) l (inserted-sorted h done e)
 
@@ -45,11 +45,11 @@ ranked-sorted l = sorted-onto [] l (unfold sorted in refl)
 
 stable-onto : (k : RankedHint) (done l : List RankedHint) →
     isKnown k ≡ true → Each isKnown done → Each isKnown l → sorted done ≡ true →
-    those (level k) (onto done l) ≡ those (level k) done ++ those (level k) l
-unfolding onto those
-stable-onto k done [] kk kd kl e = sym (append-nil (those (level k) done))
+    those (areLevel k) (rankedOnto done l) ≡ those (areLevel k) done ++ those (areLevel k) l
+unfolding rankedOnto those
+stable-onto k done [] kk kd kl e = sym (append-nil (those (areLevel k) done))
 stable-onto k done (h ∷ l) kk kd kl e =
-    let q = level k in
+    let q = areLevel k in
     let known = each-permuted isKnown (inserted h done) (h ∷ done) (inserted-permuted h done) (with-one (first kl) kd) in
     stable-onto k (inserted h done) l kk known (rest kl) (inserted-sorted h done e) ∙
     ap (λ (m : List RankedHint). m ++ those q l) (inserted-stable k h done kk (first kl) kd e) ∙
@@ -70,22 +70,22 @@ ranked-ranking l known = record { permuted = ranked-permuted l; in-order = ranke
 
 -- ---- Nothing else is.
 
-level-self : (x : RankedHint) → level x x ≡ true
+level-self : (x : RankedHint) → areLevel x x ≡ true
 level-self x = rw (before-self x)
 
-first-level : (k x : RankedHint) (l : List RankedHint) → level k x ≡ true → those (level k) (x ∷ l) ≡ x ∷ those (level k) l
+first-level : (k x : RankedHint) (l : List RankedHint) → areLevel k x ≡ true → those (areLevel k) (x ∷ l) ≡ x ∷ those (areLevel k) l
 unfolding those
 first-level k x l e = rw e
 
 -- Where x is first, some are level with it,
-some-level : (x : RankedHint) (l : List RankedHint) → those (level x) (x ∷ l) ≡ [] → ⊥
+some-level : (x : RankedHint) (l : List RankedHint) → those (areLevel x) (x ∷ l) ≡ [] → ⊥
 some-level x l e = nil≢cons (sym e ∙ first-level x x l (level-self x))
 
 -- so it does not go before the first of another list in order in which they are the same.
 not-ahead : (x y : RankedHint) (l m : List RankedHint) → isKnown x ≡ true → Each isKnown (y ∷ m) → sorted (y ∷ m) ≡ true →
-    those (level x) (x ∷ l) ≡ those (level x) (y ∷ m) → before x y ≡ false
+    those (areLevel x) (x ∷ l) ≡ those (areLevel x) (y ∷ m) → goesBefore x y ≡ false
 not-ahead x y l m kx km e same =
-    eq-false-of-not-eq-true (λ (b : before x y ≡ true). some-level x l (same ∙ none-level x x y m kx kx km e (level-self x) b))
+    eq-false-of-not-eq-true (λ (b : goesBefore x y ≡ true). some-level x l (same ∙ none-level x x y m kx kx km e (level-self x) b))
 
 same-rest : (test : RankedHint → Bool) (x : RankedHint) (l m : List RankedHint) →
     those test (x ∷ l) ≡ those test (x ∷ m) → those test l ≡ those test m
@@ -99,20 +99,20 @@ same-rest test x l m = by (test x)
 
 -- For any hint those level with it are the same in both.
 abbrev Alike : List RankedHint → List RankedHint → Type 0
-Alike l m = (k : RankedHint) → isKnown k ≡ true → those (level k) l ≡ those (level k) m
+Alike l m = (k : RankedHint) → isKnown k ≡ true → those (areLevel k) l ≡ those (areLevel k) m
 
 one-list : (l m : List RankedHint) →
     Each isKnown l → Each isKnown m → sorted l ≡ true → sorted m ≡ true → Alike l m → l ≡ m
 one-list [] [] kl km sl sm same = refl
-one-list [] (y ∷ m) kl km sl sm same = absurd (some-level y m (sym (same y (first km)) ∙ none (level y)))
-one-list (x ∷ l) [] kl km sl sm same = absurd (some-level x l (same x (first kl) ∙ none (level x)))
+one-list [] (y ∷ m) kl km sl sm same = absurd (some-level y m (sym (same y (first km)) ∙ none (areLevel y)))
+one-list (x ∷ l) [] kl km sl sm same = absurd (some-level x l (same x (first kl) ∙ none (areLevel x)))
 one-list (x ∷ l) (y ∷ m) kl km sl sm same =
     let e = same x (first kl) in
     let x-y = not-ahead x y l m (first kl) km sm e in
     let y-x = not-ahead y x m l (first km) kl sl (sym (same y (first km))) in
     let p : x ≡ y = head-eq-of-cons-eq (sym (first-level x x l (level-self x)) ∙ e ∙ first-level x y m (rw (x-y, y-x))) in
     let others : Alike l m =
-    λ k kk. same-rest (level k) x l m (same k kk ∙ ap (λ (z : RankedHint). those (level k) (z ∷ m)) (sym p)) in
+    λ k kk. same-rest (areLevel k) x l m (same k kk ∙ ap (λ (z : RankedHint). those (areLevel k) (z ∷ m)) (sym p)) in
     let q = one-list l m (rest kl) (rest km) (sorted-rest x l sl) (sorted-rest y m sm) others in
     λ i. p i ∷ q i
 
@@ -144,7 +144,7 @@ member (x ∷ l) zero d h = List·Memᴰ·head refl
 member (x ∷ l) (suc i) d h = List·Memᴰ·tail (member l i d (le-of-suc-le-suc h))
 
 pairs : (l : List RankedHint) (i j : ℕ) (d : RankedHint) →
-    Each isKnown l → sorted l ≡ true → i < j → j < length l → before (getD l j d) (getD l i d) ≡ false
+    Each isKnown l → sorted l ≡ true → i < j → j < length l → goesBefore (getD l j d) (getD l i d) ≡ false
 pairs [] i j d k e a b = absurd (not-suc-le-zero b)
 pairs (x ∷ l) zero j d k e a b = not-before-first x l k e (getD (x ∷ l) j d) (member (x ∷ l) j d b)
 pairs (x ∷ l) (suc i) zero d k e a b = absurd (not-suc-le-zero a)
@@ -152,5 +152,5 @@ pairs (x ∷ l) (suc i) (suc j) d k e a b = pairs l i j d (rest k) (sorted-rest 
 
 -- In a list in order the later of two, not only of neighbours, does not go before the earlier (RULES 11.6).
 pub sorted-pairs : (l : List RankedHint) (i j : ℕ) (d : RankedHint) →
-    every isKnown l ≡ true → sorted l ≡ true → i < j → j < length l → before (getD l j d) (getD l i d) ≡ false
+    every isKnown l ≡ true → sorted l ≡ true → i < j → j < length l → goesBefore (getD l j d) (getD l i d) ≡ false
 sorted-pairs l i j d known = pairs l i j d (each isKnown l known)

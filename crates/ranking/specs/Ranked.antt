@@ -9,8 +9,8 @@ use lib.Ieee
 use Rattle.ranking.specs.declared.order.RankedHint.{RankedHint}
 
 -- a goes before b: the smaller contour, and at equal contours the smaller reach (RULES 11.6).
-unfoldable pub before : RankedHint → RankedHint → Bool
-before a b =
+unfoldable pub goesBefore : RankedHint → RankedHint → Bool
+goesBefore a b =
     cond (ltZ (a .contour .0) (b .contour .0))
     true
     (cond (ltZ (b .contour .0) (a .contour .0)) false (Ieee.lt (a .reach) (b .reach)))
@@ -18,15 +18,15 @@ before a b =
 -- One hint more: in front of the first that it goes before, so behind all that are level with it (RULES 11.7).
 unfoldable pub inserted : RankedHint → List RankedHint → List RankedHint
 inserted h [] = h ∷ []
-inserted h (x ∷ l) = cond (before h x) (h ∷ x ∷ l) (x ∷ inserted h l)
+inserted h (x ∷ l) = cond (goesBefore h x) (h ∷ x ∷ l) (x ∷ inserted h l)
 
 -- Hints in the order of finding, each put at its place among those that are ranked already.
-unfoldable pub onto : List RankedHint → List RankedHint → List RankedHint
-onto done [] = done
-onto done (h ∷ l) = onto (inserted h done) l
+unfoldable pub rankedOnto : List RankedHint → List RankedHint → List RankedHint
+rankedOnto done [] = done
+rankedOnto done (h ∷ l) = rankedOnto (inserted h done) l
 
 abbrev pub ranked : List RankedHint → List RankedHint
-ranked l = onto [] l
+ranked l = rankedOnto [] l
 
 -- ---- What is asked of a ranking m of l, and shown to fix it (proofs/Theorems).
 
@@ -34,7 +34,7 @@ ranked l = onto [] l
 unfoldable pub sorted : List RankedHint → Bool
 sorted [] = true
 sorted (x ∷ []) = true
-sorted (x ∷ (y ∷ l)) = not (before y x) && sorted (y ∷ l)
+sorted (x ∷ (y ∷ l)) = not (goesBefore y x) && sorted (y ∷ l)
 
 -- Those that pass a test, in their order.
 unfoldable pub those : (RankedHint → Bool) → List RankedHint → List RankedHint
@@ -46,8 +46,8 @@ pub record Permuted (m l : List RankedHint) : Type 0 where
   pub as-many : (p : RankedHint → Bool) → length (those p m) ≡ length (those p l)
 
 -- Neither goes before the other.
-abbrev pub level : RankedHint → RankedHint → Bool
-level a b = not (before a b) && not (before b a)
+abbrev pub areLevel : RankedHint → RankedHint → Bool
+areLevel a b = not (goesBefore a b) && not (goesBefore b a)
 
 -- The reach is no NaN.
 abbrev pub isKnown : RankedHint → Bool
@@ -55,7 +55,7 @@ isKnown h = not (Ieee.isNan (h .reach))
 
 -- Stable: those level with any one hint stand in the order of finding.
 pub record Stable (m l : List RankedHint) : Type 0 where
-  pub as-found : (k : RankedHint) → isKnown k ≡ true → those (level k) m ≡ those (level k) l
+  pub as-found : (k : RankedHint) → isKnown k ≡ true → those (areLevel k) m ≡ those (areLevel k) l
 
 pub record Ranking (m l : List RankedHint) : Type 0 where
   pub permuted : Permuted m l

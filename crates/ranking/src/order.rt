@@ -2,7 +2,7 @@
 use numbers::time::Duration;
 use waits::hint::WaitHint;
 ghost use mathlib.Core.Path.{_≡_};
-ghost use Rattle.ranking.specs.Ranked.{before};
+ghost use Rattle.ranking.specs.Ranked.{goesBefore};
 
 // A hint, how late the agent is that waits there, and how far along its line that is.
 pub struct RankedHint {
@@ -13,7 +13,7 @@ pub struct RankedHint {
 
 // Whether a stands before b: its contour is smaller, or at the same contour its reach.
 pub fn goes_before(a: RankedHint, b: RankedHint) -> bool
-    ensures { λ r. ⌜ r ≡ before a b ⌝ }
+    ensures { λ r. ⌜ r ≡ goesBefore a b ⌝ }
 {
     if a.contour.is_below(b.contour) {
         return true;

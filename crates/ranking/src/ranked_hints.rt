@@ -8,7 +8,7 @@ use waits::hint::WaitHint;
 ghost use mathlib.Core.Path.{_≡_};
 ghost use Prim.Native.Nat.{_≤_};
 ghost use lib.ListN.{length, getD};
-ghost use Rattle.ranking.specs.Hints.{blank, held, refusedBy, noHints, withLast, withRanked, placeOf, isRanked};
+ghost use Rattle.ranking.specs.Hints.{blankRanked, rankedHeld, rankedRefused, noRanked, withLast, withRanked, rankOf, isRanked};
 
 // The first `count` of `all` are hints, where `refused` is 0; else it is the number of a refusal, and there are none.
 pub struct RankedHints {
@@ -21,7 +21,7 @@ impl RankedHints {
     // How many of the first 64 hints stand before the place of one more.
     fn place(self, hint: RankedHint) -> usize
         requires { ⌜ self .count ≤ 64 ⌝ }
-        ensures { λ r. ⌜ r ≡ placeOf hint (held self) ⌝ }
+        ensures { λ r. ⌜ r ≡ rankOf hint (rankedHeld self) ⌝ }
     {
         let n = self.count;
         let mut i = 0;
@@ -37,7 +37,7 @@ impl RankedHints {
 
     // A refusal: its number alone.
     pub fn refused_by(number: u64) -> RankedHints
-        ensures { λ r. ⌜ r ≡ refusedBy number ⌝ }
+        ensures { λ r. ⌜ r ≡ rankedRefused number ⌝ }
     {
         let blank = RankedHint {
             contour: Duration(0),
@@ -56,14 +56,14 @@ impl RankedHints {
     }
 
     pub fn none() -> RankedHints
-        ensures { λ r. ⌜ r ≡ noHints ⌝ }
+        ensures { λ r. ⌜ r ≡ noRanked ⌝ }
     {
         RankedHints::refused_by(0)
     }
 
     // How many hints there are.
     pub fn len(self) -> usize
-        ensures { λ r. ⌜ r ≡ length (held self) ⌝ }
+        ensures { λ r. ⌜ r ≡ length (rankedHeld self) ⌝ }
     {
         let n = self.count;
         if 64 < n {
@@ -74,7 +74,7 @@ impl RankedHints {
 
     // Hint i, and a blank one where there is none.
     pub fn at(self, i: usize) -> RankedHint
-        ensures { λ r. ⌜ r ≡ getD (held self) i blank ⌝ }
+        ensures { λ r. ⌜ r ≡ getD (rankedHeld self) i blankRanked ⌝ }
     {
         if i < self.len() {
             return self.all[i];
@@ -89,7 +89,7 @@ impl RankedHints {
     {
         let n = self.count;
         if 64 <= n {
-            return RankedHints::refused_by(10);
+            return RankedHints::refused_by(refusals::FULL);
         }
         let mut next = self;
         next.all[n] = hint;
@@ -104,7 +104,7 @@ impl RankedHints {
     {
         let n = self.count;
         if 64 <= n {
-            return RankedHints::refused_by(10);
+            return RankedHints::refused_by(refusals::FULL);
         }
         let at = self.place(hint);
         let mut next = self;

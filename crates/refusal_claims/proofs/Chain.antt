@@ -4,10 +4,10 @@ use Prim.Native.Nat.{ℕ, zero, suc, _+_, _-_}
 use mathlib.Core.Bool.{Bool, true, false}
 use mathlib.Core.Option.{Option, none, some}
 use lib.Dec.{ltb, leb}
-use Rattle.chains.specs.Answer.{Answer, Way, NoWay, Refused}
+use Rattle.chains.specs.Answer.{Chained, Way, NoWay, Refused}
 use Rattle.chains.specs.Recursive as R
 use Rattle.chains.specs.Recursive.{Tried, Found, Blocked, Unreached, Stopped}
-use Rattle.chains.specs.Recursive.{popped, arrivedBy, startedBy, offer, after, rooted, pastEnd}
+use Rattle.chains.specs.Recursive.{popped, arrivedBy, startedBy, offer, afterChild, atRoot, pastLastRoot}
 use Rattle.chains.specs.declared.trial.Trial.{Trial}
 use Rattle.chains.specs.declared.trial.Trial.the-variants as T
 
@@ -17,7 +17,7 @@ Tests N T.Passed = Unit {0}
 Tests N T.Failed = Unit {0}
 Tests N (T.Refused n) = N n
 
-abbrev pub Searches : (ℕ → Type 0) → Answer → Type 0
+abbrev pub Searches : (ℕ → Type 0) → Chained → Type 0
 Searches N (Way l p) = Unit {0}
 Searches N (NoWay p) = Unit {0}
 Searches N (Refused n p) = N n
@@ -47,19 +47,19 @@ module _ (N : ℕ → Type 0) (eleven : N 11) where
   offered-tries true f p h = h p
   offered-tries false f p h = tt
 
-  after-tries : (t : Tried) (i : ℕ) (go : ℕ → Tried) → Tries t → ((q : ℕ) → Tries (go q)) → Tries (after t i go)
+  after-tries : (t : Tried) (i : ℕ) (go : ℕ → Tried) → Tries t → ((q : ℕ) → Tries (go q)) → Tries (afterChild t i go)
   after-tries (Found l p) i go h next = tt
   after-tries (Blocked p) i go h next = next p
   after-tries (Unreached p) i go h next = next p
   after-tries (Stopped n p) i go h next = h
 
-  rooted-searches : (t : Tried) (go : ℕ → Answer) → Tries t → ((q : ℕ) → Searches N (go q)) → Searches N (rooted t go)
+  rooted-searches : (t : Tried) (go : ℕ → Chained) → Tries t → ((q : ℕ) → Searches N (go q)) → Searches N (atRoot t go)
   rooted-searches (Found l p) go h next = tt
   rooted-searches (Blocked p) go h next = next p
   rooted-searches (Unreached p) go h next = tt
   rooted-searches (Stopped n p) go h next = h
 
-  past-searches : (spent : Bool) → Searches N (pastEnd spent)
+  past-searches : (spent : Bool) → Searches N (pastLastRoot spent)
   past-searches true = eleven
   past-searches false = tt
 

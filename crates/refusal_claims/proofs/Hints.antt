@@ -11,7 +11,7 @@ use Rattle.shapes.specs.declared.profile.CircularProfile.{CircularProfile}
 use Rattle.shapes.specs.declared.waypoint.Leg.{Leg}
 use Rattle.obstacles.specs.Examined.{agentExamined}
 use Rattle.obstacles.specs.Lent.{Lent}
-use Rattle.ranking.specs.Hints.{refusedBy}
+use Rattle.ranking.specs.Hints.{rankedRefused}
 use Rattle.ranking.specs.declared.ranked_hints.RankedHints.{RankedHints}
 use Rattle.hints.specs.Asked.{askedHints}
 use Rattle.hints.proofs.Answered.{asked-refused, asked-short, asked-answered}
@@ -24,8 +24,8 @@ by-number (inr (inl seven)) = rw seven Strayed
 by-number (inr (inr ten)) = rw ten Full
 
 -- A refusal holds its number.
-alone : (hints : RankedHints) (n : ℕ) → hints ≡ refusedBy n → HintsRefusal n → HintsRefusal (hints .refused)
-unfolding refusedBy
+alone : (hints : RankedHints) (n : ℕ) → hints ≡ rankedRefused n → HintsRefusal n → HintsRefusal (hints .refused)
+unfolding rankedRefused
 alone hints n e h = rw e h
 
 pub hints-refused : (p : CircularProfile) (agent : Leg) (lent : Lent) →

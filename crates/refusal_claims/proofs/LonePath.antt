@@ -16,7 +16,7 @@ use Rattle.obstacles.specs.Examined.{agentExamined}
 use Rattle.obstacles.specs.Lent.{Lent, obstaclesOf}
 use Rattle.obstacles.specs.Obstacle.{Obstacle}
 use Rattle.obstacles.proofs.Accepted.{accepted}
-use Rattle.ranking.specs.Hints.{held}
+use Rattle.ranking.specs.Hints.{rankedHeld}
 use Rattle.lending.specs.Lent.{lentHints}
 use Rattle.ranking.specs.declared.order.RankedHint.{RankedHint}
 use Rattle.ranking.specs.declared.ranked_hints.RankedHints.{RankedHints}
@@ -68,9 +68,9 @@ module _ (p : CircularProfile) (agent : Leg) (arrival : TimePoint) (budget : ℕ
       input = withLent (list .refused) (withNumbers beside own)
 
       lasting : (brief : Bool) → own ≡ X.Fine →
-          Seeks (cond brief (Refused 4) (lonePath p agent arrival budget (held list) (obstaclesOf lent)))
+          Seeks (cond brief (Refused 4) (lonePath p agent arrival budget (rankedHeld list) (obstaclesOf lent)))
       lasting true fine = NoLine
-      lasting false fine = lone-seeks (held list) fine
+      lasting false fine = lone-seeks (rankedHeld list) fine
 
       by : (x : Examined) → input ≡ x → Finds PathRefusal x → Seeks (askedPath p agent arrival budget words lent)
       by X.Fine e h =

@@ -7,6 +7,7 @@ use mathlib.Core.List.{List, [], _∷_}
 use mathlib.Core.Option.{Option, none, some}
 use lib.Dec.{eqb}
 use lib.ListN.{length}
+use Rattle.numbers.specs.Time.{withSpan}
 use Rattle.numbers.specs.declared.time.Duration.{Duration}
 use Rattle.numbers.specs.declared.time.Span.{Span}
 use Rattle.numbers.specs.declared.time.Span.the-variants as S
@@ -16,21 +17,21 @@ use Rattle.shapes.specs.declared.waypoint.Waypoint.{Waypoint}
 use Rattle.obstacles.specs.Obstacle.{Obstacle}
 use Rattle.waits.specs.declared.hint.WaitHint.{WaitHint}
 use Rattle.ranking.specs.declared.order.RankedHint.{RankedHint}
-use Rattle.chains.specs.Answer.{Answer, Way, NoWay}
+use Rattle.chains.specs.Answer.{Chained, Way, NoWay}
 use Rattle.chains.specs.Answer as A
-use Rattle.chains.specs.Handed.{chainOf, linksIn, firstOf, answered}
+use Rattle.chains.specs.Handed.{chainOf, linksIn, firstIndex, answered}
 use Rattle.chains.specs.declared.trial.Trial.{Trial}
 use Rattle.chains.specs.declared.trial.Trial.the-variants as T
 use Rattle.choosing.specs.Roots.{goalContour, firstRoot}
 use Rattle.ways.specs.Tests.{straight}
-use Rattle.ways.specs.Travel.{waypointOf, reachedFrom}
+use Rattle.ways.specs.Travel.{hintWaypoint, reachedFrom, withReached}
 use Rattle.choosing.specs.declared.roots.Contour.{Contour}
 use Rattle.choosing.specs.declared.roots.Contour.the-variants as C
 use Rattle.ways.specs.declared.travel.Reached.{Reached}
 use Rattle.ways.specs.declared.travel.Reached.the-variants as W
 use Rattle.ways.specs.declared.trip.Trip.{Trip}
 use Rattle.paths.specs.Trying.{stopIn, toParent, startsAt, reaches, chainFrom}
-use Rattle.actions.specs.Built.{Built, Of, reaching, spanning, holdAfter, stopped, ended, before, andOn, built, hintsAt, unheld}
+use Rattle.actions.specs.Built.{Built, Of, holdAfter, stopped, ended, inFront, andOn, built, hintsAt, unheld}
 use Rattle.arrival_paths.specs.Path.{Sought, Path, Missing, Refused, withPops, alongHints, taken, contoured, byHints, pathFor}
 use Rattle.actions.specs.declared.action.SafeAction.{SafeAction}
 use Rattle.actions.specs.declared.action.SafeAction.the-variants.{Move, Wait}
@@ -45,15 +46,15 @@ abbrev Builds : Built → Type 0
 Builds (Of actions hold) = Unit {0}
 Builds (Built.Refused n) = PathRefusal n
 
-reaching-builds : (r : Reached) (go : Waypoint → Built) → Reaches r → ((w : Waypoint) → Builds (go w)) → Builds (reaching r go)
+reaching-builds : (r : Reached) (go : Waypoint → Built) → Reaches r → ((w : Waypoint) → Builds (go w)) → Builds (withReached Built.Refused r go)
 reaching-builds (W.At w) go h k = k w
 reaching-builds (W.Refused n) go h k = h
 
-spanning-builds : (s : Span) (go : Duration → Built) → ((d : Duration) → Builds (go d)) → Builds (spanning s go)
+spanning-builds : (s : Span) (go : Duration → Built) → ((d : Duration) → Builds (go d)) → Builds (withSpan (Built.Refused 7) s go)
 spanning-builds (S.Of d) go k = k d
 spanning-builds S.Strayed go k = Strayed
 
-before-builds : (done : List SafeAction) (b : Built) → Builds b → Builds (before done b)
+before-builds : (done : List SafeAction) (b : Built) → Builds b → Builds (inFront done b)
 before-builds done (Of actions hold) h = tt
 before-builds done (Built.Refused n) h = h
 
@@ -67,7 +68,7 @@ module _ (trip : Trip) where
   stop-builds from h hold =
       let move : Waypoint → Duration → Built = λ w sum. Of (Move w ∷ (Wait (h .obstacle) (h .until) ∷ [])) sum in
       reaching-builds (reachedFrom (trip .speed) from (h .place))
-      (λ w. spanning (holdAfter hold (w .time) (h .until)) (move w))
+      (λ w. withSpan (Built.Refused 7) (holdAfter hold (w .time) (h .until)) (move w))
       (travels (trip .speed) from (h .place))
       (λ w. spanning-builds (holdAfter hold (w .time) (h .until)) (move w) (λ sum. tt))
 
@@ -82,8 +83,8 @@ module _ (trip : Trip) where
   unfolding built
   builds from hold [] = end-builds from hold
   builds from hold (h ∷ hs) =
-      on-builds (stopped trip from h hold) (λ sum. built trip (waypointOf h) sum hs) (stop-builds from h hold)
-      (λ sum. builds (waypointOf h) sum hs)
+      on-builds (stopped trip from h hold) (λ sum. built trip (hintWaypoint h) sum hs) (stop-builds from h hold)
+      (λ sum. builds (hintWaypoint h) sum hs)
 
 -- ---- The search.
 
@@ -121,7 +122,7 @@ module _ (trip : Trip) (hints : List RankedHint) where
       let stops = hintsAt hints links in
       pops-seek pops (built trip (trip .leg .start) unheld stops) (builds trip (trip .leg .start) unheld stops)
 
-  taken-seeks : (a : Answer) → Searches PathRefusal a → Seeks (taken trip hints (answered a))
+  taken-seeks : (a : Chained) → Searches PathRefusal a → Seeks (taken trip hints (answered a))
   unfolding taken
   taken-seeks (Way l p) h = along-seeks (linksIn (chainOf l)) p
   taken-seeks (NoWay p) h = tt
@@ -133,12 +134,12 @@ module _ (trip : Trip) (os : List Obstacle) (hints : List RankedHint) (budget : 
   hints-seek = by (eqb (length hints) 0) (goalContour trip arrival) (contours trip arrival)
     where
       search : Duration → Sought
-      search goal = taken trip hints (answered (chainFrom trip os hints budget (firstOf (firstRoot goal hints))))
+      search goal = taken trip hints (answered (chainFrom trip os hints budget (firstIndex (firstRoot goal hints))))
 
       by : (none : Bool) (c : Contour) → Contours c → Seeks (cond none (Missing 0) (contoured c search))
       by true c h = tt
       by false (C.Of goal) h =
-          let first = firstOf (firstRoot goal hints) in
+          let first = firstIndex (firstRoot goal hints) in
           taken-seeks trip hints (chainFrom trip os hints budget first) (chain-searches trip os hints budget first)
       by false (C.Refused n) h = h
 

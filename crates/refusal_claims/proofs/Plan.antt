@@ -19,7 +19,7 @@ use Rattle.obstacles.specs.Examined.{agentExamined}
 use Rattle.obstacles.specs.Lent.{Lent, obstaclesOf}
 use Rattle.obstacles.specs.Obstacle.{Obstacle}
 use Rattle.obstacles.proofs.Accepted.{accepted}
-use Rattle.ranking.specs.Hints.{held}
+use Rattle.ranking.specs.Hints.{rankedHeld}
 use Rattle.ranking.specs.declared.order.RankedHint.{RankedHint}
 use Rattle.ranking.specs.declared.ranked_hints.RankedHints.{RankedHints}
 use Rattle.hints.specs.Contour.{scaleOf, rankedHints}
@@ -37,7 +37,7 @@ use Rattle.arrival_paths.specs.Path as P
 use Rattle.arrival_paths.specs.Path.{pathFor}
 use Rattle.asking.specs.Beside.{isBudget, withNumbers}
 use Rattle.plans.specs.Asked.{askedPlan}
-use Rattle.plans.specs.Plan.{Path, Paths, Of, first, sought, pathsFor, Plan, Planned, Refused, scaled, timed, planned, tripOf}
+use Rattle.plans.specs.Plan.{Path, Paths, Of, first, sought, pathsFor, Plan, Planned, Refused, withScale, timed, planned, tripOf}
 use Rattle.plans.specs.Plan.{pathsPlanned, timesPlanned, hintsPlanned, longPlan, shortPlan, planOf}
 use Rattle.asking.proofs.Fine.{numbers-fine}
 use Rattle.path_claims.proofs.Calls.{hints-alone, arrivals-alone}
@@ -124,7 +124,7 @@ module _ (p : CircularProfile) (agent : Leg) (budget : ℕ) (lent : Lent) (fine 
       trip : Trip
       trip = tripOf p agent scale
 
-      by : (a : A.Answer) → askedArrivals p (agent .end) lent ≡ a →
+      by : (a : A.Searched) → askedArrivals p (agent .end) lent ≡ a →
           Plans (timed a (λ times sweeps. pathsPlanned trip os hints budget times sweeps))
       by (A.Answered times sweeps) e = paths-plan trip hints times sweeps
       by (A.Refused n) e = as-arrivals (demand-three p (agent .end) lent .refusals e)
@@ -141,15 +141,15 @@ module _ (p : CircularProfile) (agent : Leg) (budget : ℕ) (lent : Lent) (fine 
       refused = rw (hints-alone p agent lent fine lasts) at (hints-refused p agent lent)
 
       by : (none : Bool) → eqb (own .refused) 0 ≡ none →
-          Plans (cond none (timesPlanned (tripOf p agent scale) os os (held own) budget) (Refused (own .refused)))
-      by true e = times-plan scale (held own)
+          Plans (cond none (timesPlanned (tripOf p agent scale) os os (rankedHeld own) budget) (Refused (own .refused)))
+      by true e = times-plan scale (rankedHeld own)
       by false e = as-hints (refused (eqb-false (own .refused) 0 e))
 
   long-plan : isBrief agent ≡ false → Plans (longPlan p agent budget os)
   unfolding longPlan
   long-plan lasts = by (scaleOf agent) (scale-given agent (accepted p agent lent fine .own))
     where
-      by : (s : Scaling) → Scaled s → Plans (scaled s (λ scale. hintsPlanned (tripOf p agent scale) os os budget))
+      by : (s : Scaling) → Scaled s → Plans (withScale s (λ scale. hintsPlanned (tripOf p agent scale) os os budget))
       by (L.By scale) h = hints-plan lasts scale
       by (L.Refused n) h = rw h NoLine
 

@@ -12,7 +12,7 @@ use Rattle.shapes.specs.declared.profile.CircularProfile.{CircularProfile}
 use Rattle.shapes.specs.declared.waypoint.Leg.{Leg}
 use Rattle.obstacles.specs.Lent.{Lent}
 use Rattle.plans.specs.Asked.{askedPlan}
-use Rattle.plans.specs.Laid.{fits, planNumber}
+use Rattle.plans.specs.Laid.{bothHold, planNumber}
 use Rattle.plans.specs.Plan.{Plan, Planned, Refused, allActions}
 use Rattle.refusal_claims.specs.Numbers.{PlanRefusal}
 use Rattle.refusal_claims.specs.Refusals.{OfLeg, OfObstacle, OfLegs, Fitting, OfAgent}
@@ -42,9 +42,9 @@ nought-fits : (plan : Plan) (room actionRoom : ℕ) → ((n : ℕ) → plan ≡ 
 unfolding planNumber
 nought-fits (Refused n) room actionRoom h e = absurd (not-zero (rw e at (h n refl)))
 nought-fits (Planned hints times sweeps ps) room actionRoom h e =
-    by (fits room actionRoom (1 + length ps) (length (allActions ps))) refl e
+    by (bothHold room actionRoom (1 + length ps) (length (allActions ps))) refl e
   where
-    by : (b : Bool) → fits room actionRoom (1 + length ps) (length (allActions ps)) ≡ b → _≡_ {A = ℕ} (cond b 0 12) 0 →
+    by : (b : Bool) → bothHold room actionRoom (1 + length ps) (length (allActions ps)) ≡ b → _≡_ {A = ℕ} (cond b 0 12) 0 →
         Fitting (Planned hints times sweeps ps) room actionRoom
     by true f k = record { hints = hints; times = times; sweeps = sweeps; paths = ps; planned = refl; fitting = f }
     by false f k = absurd (omega (arith, k))

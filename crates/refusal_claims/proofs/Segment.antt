@@ -10,7 +10,7 @@ use Rattle.lists.specs.Listed.{every}
 use Rattle.floats.proofs.Tests.{passed, failed}
 use Rattle.numbers.proofs.Integers.{below→at-most}
 use Rattle.numbers.proofs.Order.{chosen-has}
-use Rattle.numbers.proofs.Reach.{both}
+use Rattle.numbers.proofs.Exact.{both}
 use Rattle.shapes.specs.Box.{boxOfLeg}
 use Rattle.limits.specs.Domain.{isLimit, isWaypoint, isLeg, isProfile}
 use Rattle.shapes.specs.Leg.{isBackward, isRising}

@@ -9,7 +9,7 @@ use lib.IntN.{ℤ}
 use lib.ListN.{length}
 use lib.Ieee.{Float}
 use Rattle.numbers.specs.declared.time.TimePoint.{TimePoint}
-use Rattle.numbers.proofs.Reach.{both}
+use Rattle.numbers.proofs.Exact.{both}
 use Rattle.limits.specs.Asked.{askedBox}
 use Rattle.shapes.specs.Box.{boxOfLeg}
 use Rattle.limits.specs.Domain.{isTime, isLeg, isProfile}
@@ -19,7 +19,7 @@ use Rattle.limits.specs.declared.calls.Boxed.{Boxed}
 use Rattle.limits.specs.declared.calls.Boxed.the-variants as B
 use Rattle.shapes.specs.declared.profile.CircularProfile.{CircularProfile}
 use Rattle.shapes.specs.declared.waypoint.Leg.{Leg}
-use Rattle.limits.proofs.Limits.{time-in-reach}
+use Rattle.limits.proofs.Limits.{time-exact}
 use Rattle.proximity.specs.Asked.{askedPosition}
 use Rattle.motions.specs.Motion.{motionAt}
 use Rattle.proximity.specs.declared.calls.Whereabouts.{Whereabouts}
@@ -53,7 +53,7 @@ module _ (leg : Leg) where
       moves own timed e (outside h) forward = rw (own, timed, forward, e) tt
       moves own timed e (strayed s) forward =
           let a = accepted leg own in
-          absurd (never-strays (times-given _ _ (a .start-time) (a .end-time)) (time-in-reach t timed) s)
+          absurd (never-strays (times-given _ _ (a .start-time) (a .end-time)) (time-exact t timed) s)
 
       by : (allowed backward : Bool) → (isLeg leg && isTime t) ≡ allowed → isBackward leg ≡ backward →
           Stands (askedPosition leg t)

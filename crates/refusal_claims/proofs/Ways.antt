@@ -7,7 +7,8 @@ use mathlib.Core.List.{List}
 use lib.Ieee
 use lib.Ieee.{Float, binary64}
 use lib.Signed.{ltZ}
-use Rattle.numbers.specs.Time.{spanBetween, instantAfterSeconds}
+use Rattle.root.specs.Root.{withRoot}
+use Rattle.numbers.specs.Time.{spanBetween, instantAfterSeconds, withSpan, withInstant}
 use Rattle.numbers.specs.declared.time.Instant.{Instant}
 use Rattle.numbers.specs.declared.time.Instant.the-variants as I
 use Rattle.numbers.specs.declared.time.Span.{Span}
@@ -17,7 +18,7 @@ use Rattle.root.specs.declared.nearest.Root.{Root}
 use Rattle.root.specs.declared.nearest.Root.the-variants as R
 use Rattle.shapes.specs.Box.{boxOfLeg}
 use Rattle.shapes.specs.Leg.{placeOf}
-use Rattle.shapes.specs.Vector.{difference}
+use Rattle.shapes.specs.Vector.{vectorDifference}
 use Rattle.shapes.specs.declared.bounding_box.BoundingBox.{BoundingBox}
 use Rattle.shapes.specs.declared.profile.CircularProfile.{CircularProfile}
 use Rattle.shapes.specs.declared.vector.Vector.{Vector}
@@ -35,9 +36,9 @@ use Rattle.chains.specs.declared.trial.Trial.{Trial}
 use Rattle.chains.specs.declared.trial.Trial.the-variants as T
 use Rattle.choosing.specs.Roots as Roots
 use Rattle.choosing.specs.Roots.{lateness, goalContour}
-use Rattle.ways.specs.Tests.{reaching, toEnd, toGoal, waitsAt, fromStart, staysTill, straight}
-use Rattle.ways.specs.Travel.{waypointAt, rooted, arriving, reachedFrom}
-use Rattle.ways.specs.Way.{judged, wayOf, next, bothWays}
+use Rattle.ways.specs.Tests.{toEnd, toGoal, waitsAt, fromStart, staysTill, straight}
+use Rattle.ways.specs.Travel.{waypointAt, reachedFrom, withReached}
+use Rattle.ways.specs.Way.{trialOf, wayOf, next, bothWays}
 use Rattle.choosing.specs.declared.roots.Contour.{Contour}
 use Rattle.choosing.specs.declared.roots.Contour.the-variants as C
 use Rattle.ways.specs.declared.travel.Reached.{Reached}
@@ -55,15 +56,15 @@ Reaches (W.Refused n) = PathRefusal n
 pub travels : (speed : Float) (from : Waypoint) (place : Vector) → Reaches (reachedFrom speed from place)
 unfolding reachedFrom
 travels speed from place =
-    by (normOf (difference place (placeOf from)))
+    by (normOf (vectorDifference place (placeOf from)))
     (λ length. instantAfterSeconds (from .time) (Ieee.div binary64 length speed))
   where
-    at : (i : Instant) → Reaches (arriving i (λ t. W.At (waypointAt place t)))
+    at : (i : Instant) → Reaches (withInstant (W.Refused 7) i (λ t. W.At (waypointAt place t)))
     at (I.At t) = tt
     at I.Strayed = Strayed
 
     by : (root : Root) (when : Float → Instant) →
-        Reaches (rooted root (λ length. arriving (when length) (λ t. W.At (waypointAt place t))))
+        Reaches (withRoot (W.Refused 1) root (λ length. withInstant (W.Refused 7) (when length) (λ t. W.At (waypointAt place t))))
     by (R.Of s) when = at (when s)
     by R.Refused when = Number
 
@@ -76,20 +77,20 @@ Contours (C.Refused n) = PathRefusal n
 pub contours : (trip : Trip) (arrival : TimePoint) → Contours (goalContour trip arrival)
 unfolding goalContour
 contours trip arrival =
-    by (normOf (difference (placeOf (trip .leg .end)) (placeOf (trip .leg .start))))
+    by (normOf (vectorDifference (placeOf (trip .leg .end)) (placeOf (trip .leg .start))))
   where
-    last : (s : Span) → Contours (Roots.spanning s (λ contour. C.Of contour))
+    last : (s : Span) → Contours (withSpan (C.Refused 7) s (λ contour. C.Of contour))
     last (S.Of d) = tt
     last S.Strayed = Strayed
 
     spans : (s : Span) (reach : Float) →
-        Contours (Roots.spanning s (λ wait. Roots.spanning (lateness (trip .speed) wait reach) (λ contour. C.Of contour)))
+        Contours (withSpan (C.Refused 7) s (λ wait. withSpan (C.Refused 7) (lateness (trip .speed) wait reach) (λ contour. C.Of contour)))
     spans (S.Of wait) reach = last (lateness (trip .speed) wait reach)
     spans S.Strayed reach = Strayed
 
-    by : (root : Root) → Contours (Roots.rooted root (λ reach.
-        Roots.spanning (spanBetween (trip .leg .start .time) arrival) (λ wait.
-        Roots.spanning (lateness (trip .speed) wait reach) (λ contour. C.Of contour))))
+    by : (root : Root) → Contours (withRoot (C.Refused 1) root (λ reach.
+        withSpan (C.Refused 7) (spanBetween (trip .leg .start .time) arrival) (λ wait.
+        withSpan (C.Refused 7) (lateness (trip .speed) wait reach) (λ contour. C.Of contour))))
     by (R.Of reach) = spans (spanBetween (trip .leg .start .time) arrival) reach
     by R.Refused = Number
 
@@ -115,7 +116,7 @@ segment-refused leg bounds os n e =
 abbrev pub Tried : Trial → Type 0
 Tried = Tests PathRefusal
 
-reaching-tried : (r : Reached) (go : Waypoint → Trial) → Reaches r → ((w : Waypoint) → Tried (go w)) → Tried (reaching r go)
+reaching-tried : (r : Reached) (go : Waypoint → Trial) → Reaches r → ((w : Waypoint) → Tried (go w)) → Tried (withReached T.Refused r go)
 reaching-tried (W.At w) go h k = k w
 reaching-tried (W.Refused n) go h k = h
 
@@ -132,7 +133,7 @@ module _ (p : CircularProfile) (os : List Obstacle) where
       let bounds = boxOfLeg (p .footprint) leg in
       by (segmentOf leg bounds os) (segment-refused leg bounds os)
     where
-      by : (v : Verdict) → ((n : ℕ) → v ≡ J.Refused n → PathRefusal n) → Tried (judged v)
+      by : (v : Verdict) → ((n : ℕ) → v ≡ J.Refused n → PathRefusal n) → Tried (trialOf v)
       by J.Clear h = tt
       by J.Conflict h = tt
       by (J.Refused n) h = h n refl

@@ -9,6 +9,7 @@ use mathlib.Core.List.{List}
 use lib.ListN.{length}
 use lib.IntN.{ℤ}
 use lib.Ieee.{Float}
+use Rattle.refusals.specs.Names.{LATE}
 use Rattle.numbers.specs.declared.time.TimePoint.{TimePoint}
 use Rattle.limits.specs.Asked.{askedBox}
 use Rattle.limits.specs.declared.calls.Boxed.the-variants as B
@@ -27,7 +28,7 @@ use Rattle.hints.specs.Asked.{askedHints}
 use Rattle.arrival_paths.specs.Path as S
 use Rattle.arrival_paths.specs.Asked.{askedPath}
 use Rattle.plans.specs.Asked.{askedPlan}
-use Rattle.plans.specs.Laid.{fits, planNumber}
+use Rattle.plans.specs.Laid.{bothHold, planNumber}
 use Rattle.plans.specs.Plan.{Path, Plan, Planned, Refused, allActions}
 use Rattle.refusal_claims.specs.Numbers.{LegRefusal, HullRefusal, LegsRefusal, SegmentRefusal}
 use Rattle.refusal_claims.specs.Numbers.{HintsRefusal, PathRefusal, PlanRefusal}
@@ -53,7 +54,7 @@ pub record Fitting (plan : Plan) (room actionRoom : ℕ) : Type 0 where
   pub sweeps : ℕ
   pub paths : List Path
   pub planned : plan ≡ Planned hints times sweeps paths
-  pub fitting : fits room actionRoom (1 + length paths) (length (allActions paths)) ≡ true
+  pub fitting : bothHold room actionRoom (1 + length paths) (length (allActions paths)) ≡ true
 
 -- The calls on an agent and a table.
 pub record OfAgent (p : CircularProfile) (agent : Leg) (lent : Lent) : Type 0 where
@@ -64,7 +65,7 @@ pub record OfAgent (p : CircularProfile) (agent : Leg) (lent : Lent) : Type 0 wh
   pub plan : {n : ℕ} (budget : ℕ) → askedPlan p agent budget lent ≡ Refused n → PlanRefusal n
   -- So 0 is the number of no refusal, nor is 9,
   pub not-nought : {n : ℕ} (budget : ℕ) → askedPlan p agent budget lent ≡ Refused n → n ≢ 0
-  pub never-nine : (budget : ℕ) → askedPlan p agent budget lent ≢ Refused 9
+  pub never-nine : (budget : ℕ) → askedPlan p agent budget lent ≢ Refused LATE
   -- and the call hands back 0 exactly where there is a plan that its two rooms hold.
   pub nought : (budget room actionRoom : ℕ) →
       (planNumber (askedPlan p agent budget lent) room actionRoom ≡ 0) ↔ Fitting (askedPlan p agent budget lent) room actionRoom

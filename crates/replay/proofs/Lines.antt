@@ -8,7 +8,7 @@ use native.Mathlib.Omega.{arith}
 use borrow.Author.Tests.{ne-eqb}
 use lib.ListN.{length, take, drop, length-take, length-drop}
 use Rattle.replay.specs.Line.{separated, lineOf}
-use Rattle.replay.specs.Listed.{asListed, judged, verdictFrom, lineCount}
+use Rattle.replay.specs.Listed.{asListed, judgedLine, verdictFrom, lineCount}
 use Rattle.replay.specs.declared.calls.Verdict.{Verdict}
 use Rattle.replay.specs.declared.calls.Verdict.the-variants.{AsListed, Differs, Malformed}
 use Rattle.replay.specs.declared.list.Answer.{Answer}
@@ -26,7 +26,7 @@ unfolding verdictFrom
 no-line s lines h = let none : lineCount s - lines ≡ 0 = omega arith in rw none
 
 module _ (s : List ℕ) (lines : ℕ) (h : lines * 85 < length s) where
-  one-line : from s lines ≡ judged (lineOf (lineAt s lines)) (verdictFrom s (lineCount s - (lines + 1))) (lines + 1)
+  one-line : from s lines ≡ judgedLine (lineOf (lineAt s lines)) (verdictFrom s (lineCount s - (lines + 1))) (lines + 1)
   unfolding verdictFrom
   one-line = let one : lineCount s - lines ≡ suc (lineCount s - (lines + 1)) = omega arith in rw one
 

@@ -28,28 +28,28 @@ outcomeOf call first second =
     (spanOutcome (spanOfSeconds (Ieee.ofBits binary64 first)))))))
 
 -- A room of three words with one of them in front, and zeros.
-abbrev pub holds : List ℕ → ℕ → Bool
-holds room word = eqb (getD room 0 0) word && (eqb (getD room 1 0) 0 && eqb (getD room 2 0) 0)
+abbrev pub holdsAt : List ℕ → ℕ → Bool
+holdsAt room word = eqb (getD room 0 0) word && (eqb (getD room 1 0) 0 && eqb (getD room 2 0) 0)
 
 -- The number handed back and the room of three words are as listed.
 unfoldable pub asListed : Answer → Bool
 asListed a =
     eqb (numberOf (outcomeOf (a .call) (a .first) (a .second)) 3) (a .number)
-    && holds (roomOf (outcomeOf (a .call) (a .first) (a .second)) 3) (a .word)
+    && holdsAt (roomOf (outcomeOf (a .call) (a .first) (a .second)) 3) (a .word)
 
 -- Go on after a line that is as listed, and end at any other with its number.
 abbrev pub compared : Bool → (ℕ → Verdict) → ℕ → Verdict
 compared true go line = go line
 compared false go line = Differs line
 
-abbrev pub judged : Line → (ℕ → Verdict) → ℕ → Verdict
-judged (L.Is a) go line = compared (asListed a) go line
-judged L.Malformed go line = Malformed line
+abbrev pub judgedLine : Line → (ℕ → Verdict) → ℕ → Verdict
+judgedLine (L.Is a) go line = compared (asListed a) go line
+judgedLine L.Malformed go line = Malformed line
 
 -- n more lines of 85 bytes, after `lines` that are as listed.
 unfoldable pub verdictFrom : List ℕ → ℕ → ℕ → Verdict
 verdictFrom s zero lines = AsListed lines
-verdictFrom s (suc n) lines = judged (lineOf (take 85 (drop (lines * 85) s))) (verdictFrom s n) (lines + 1)
+verdictFrom s (suc n) lines = judgedLine (lineOf (take 85 (drop (lines * 85) s))) (verdictFrom s n) (lines + 1)
 
 -- How many lines there are; the last may be short.
 abbrev pub lineCount : List ℕ → ℕ

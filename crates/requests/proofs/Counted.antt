@@ -19,9 +19,9 @@ use Rattle.obstacles.specs.Lent.{obstaclesOf}
 use Rattle.obstacles.specs.Examined as X
 use Rattle.obstacles.specs.Examined.{isFew, isTrajectory, isShaped, agentExamined}
 use Rattle.obstacles.proofs.Legs.{length-legs}
-use Rattle.streams.specs.Request.{Obstacle}
-use Rattle.streams.specs.Format.{legsInAll, areCounted}
-use Rattle.requests.specs.Table.{waypointOf, obstacleOf, tableOf}
+use Rattle.streams.specs.Request.{StreamObstacle}
+use Rattle.streams.specs.Format.{legsCounted, areCounted}
+use Rattle.requests.specs.Table.{requestWaypoint, obstacleOf, tableOf}
 use Rattle.requests.proofs.Laid.{table-laid}
 use Rattle.requests.proofs.TableOf.{table-obstacles}
 
@@ -29,32 +29,32 @@ use Rattle.requests.proofs.TableOf.{table-obstacles}
 abbrev pub isNotSingle : O.Obstacle → Bool
 isNotSingle o = not (eqb (length (o .waypoints)) 1)
 
-legs-of-all : (os : List Obstacle) → X.legsInAll (map obstacleOf os) ≡ legsInAll os
-unfolding X.legsInAll legsInAll obstacleOf
+legs-of-all : (os : List StreamObstacle) → X.legsInAll (map obstacleOf os) ≡ legsCounted os
+unfolding X.legsInAll legsCounted obstacleOf
 legs-of-all [] = refl
 legs-of-all (o ∷ os) =
-    let ws : List Waypoint = map waypointOf (o .points) in
-    let one = length-legs ws ∙ ap (λ n. n - 1) (length-map (o .points) waypointOf) in
+    let ws : List Waypoint = map requestWaypoint (o .points) in
+    let one = length-legs ws ∙ ap (λ n. n - 1) (length-map (o .points) requestWaypoint) in
     ap (λ n. n + X.legsInAll (map obstacleOf os)) one ∙ ap (λ n. (length (o .points) - 1) + n) (legs-of-all os)
 
-none-single : (os : List Obstacle) →
-    every isNotSingle (map obstacleOf os) ≡ every (λ (o : Obstacle). not (eqb (length (o .points)) 1)) os
+none-single : (os : List StreamObstacle) →
+    every isNotSingle (map obstacleOf os) ≡ every (λ (o : StreamObstacle). not (eqb (length (o .points)) 1)) os
 unfolding every obstacleOf
 none-single [] = refl
-none-single (o ∷ os) = rw (length-map (o .points) waypointOf, none-single os)
+none-single (o ∷ os) = rw (length-map (o .points) requestWaypoint, none-single os)
 
 and-assoc : (a b c : Bool) → ((a && b) && c) ≡ (a && (b && c))
 and-assoc true b c = refl
 and-assoc false b c = refl
 
 -- The table has few obstacles and legs and no single waypoint exactly where the request is counted so.
-pub table-counted : (os : List Obstacle) →
+pub table-counted : (os : List StreamObstacle) →
     (isFew (obstaclesOf (tableOf os)) && every isNotSingle (obstaclesOf (tableOf os))) ≡ areCounted os
 unfolding isFew areCounted
 table-counted os =
-    let points = every (λ (o : Obstacle). not (eqb (length (o .points)) 1)) os in
+    let points = every (λ (o : StreamObstacle). not (eqb (length (o .points)) 1)) os in
     rw (table-obstacles os, none-single os, legs-of-all os, length-map os obstacleOf)
-    (and-assoc (leb (length os) 32) (leb (legsInAll os) 256) points)
+    (and-assoc (leb (length os) 32) (leb (legsCounted os) 256) points)
 
 -- ---- What is left of the table's shape: that the times of each obstacle rise.
 
@@ -74,7 +74,7 @@ abbrev pub rises : O.Obstacle → Bool
 rises o = every isRising (legsOf (o .waypoints))
 
 -- A table has the right shape exactly where the request is counted and the times of each obstacle rise.
-pub table-shaped : (os : List Obstacle) → isShaped (tableOf os) ≡ (areCounted os && every rises (map obstacleOf os))
+pub table-shaped : (os : List StreamObstacle) → isShaped (tableOf os) ≡ (areCounted os && every rises (map obstacleOf os))
 unfolding isShaped isTrajectory
 table-shaped os =
     let all = obstaclesOf (tableOf os) in
@@ -84,7 +84,7 @@ table-shaped os =
     ap (λ l. areCounted os && every rises l) (table-obstacles os))
 
 -- So a request that is refused for its counts is refused 2 by the table's examination too, whatever the agent.
-pub uncounted-refused : (p : CircularProfile) (agent : Leg) (os : List Obstacle) →
+pub uncounted-refused : (p : CircularProfile) (agent : Leg) (os : List StreamObstacle) →
     areCounted os ≡ false → agentExamined p agent (tableOf os) ≡ Refused 2
 unfolding agentExamined
 uncounted-refused p agent os e = rw (table-shaped os, e)

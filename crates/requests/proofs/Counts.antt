@@ -7,8 +7,8 @@ use mathlib.Core.List.{List, [], _∷_}
 use native.Mathlib.Omega.{arith}
 use lib.ListN.{length, length-append}
 use Rattle.streams.specs.Bits.{numberAt}
-use Rattle.streams.specs.Request.{Obstacle}
-use Rattle.streams.specs.Format.{obstacleAt, obstaclesAt, legsInAll, areCounted}
+use Rattle.streams.specs.Request.{StreamObstacle}
+use Rattle.streams.specs.Format.{obstacleAt, obstaclesAt, legsCounted, areCounted}
 use Rattle.streams.proofs.Counts.{length-own, obstacles-next, counts}
 use Rattle.requests.specs.Table.{pointsOf}
 
@@ -20,10 +20,10 @@ count-next s at end o p h e =
     rw (obstacles-next s at end o p h e, length-append (obstacleAt s at .points) _, length-own s at ∙ sym e)
 
 -- At most one more for each obstacle than it has legs.
-points-at-most : (os : List Obstacle) → length (pointsOf os) ≤ length os + legsInAll os
-unfolding pointsOf legsInAll
+points-at-most : (os : List StreamObstacle) → length (pointsOf os) ≤ length os + legsCounted os
+unfolding pointsOf legsCounted
 points-at-most [] = omega arith
 points-at-most (o ∷ os) = omega (arith, points-at-most os, length-append (o .points) (pointsOf os))
 
-pub few-points : (os : List Obstacle) → areCounted os ≡ true → length (pointsOf os) ≤ 288
+pub few-points : (os : List StreamObstacle) → areCounted os ≡ true → length (pointsOf os) ≤ 288
 few-points os h = omega (arith, counts os h .0, counts os h .1, points-at-most os)

@@ -13,16 +13,16 @@ use lib.ListN.{length, getD, length-append, length-map}
 use Rattle.lists.specs.Listed.{listed, every}
 use Rattle.obstacles.specs.Lent.{startIn}
 use Rattle.obstacles.specs.Examined.{tiles, isLaid}
-use Rattle.streams.specs.Request.{Point, Obstacle}
+use Rattle.streams.specs.Request.{Point, StreamObstacle}
 use Rattle.requests.specs.Table.{double, startsFrom, pointsOf, timesOf, xsOf, ysOf, tableOf}
 use Rattle.requests.proofs.TableOf.{numbers-count, starts-count}
 
-first-start : (os : List Obstacle) (count : ℕ) → count ≡ length (pointsOf os) → getD (startsFrom 0 os) 0 count ≡ 0
+first-start : (os : List StreamObstacle) (count : ℕ) → count ≡ length (pointsOf os) → getD (startsFrom 0 os) 0 count ≡ 0
 unfolding startsFrom pointsOf
 first-start [] count e = e
 first-start (o ∷ os) count e = refl
 
-starts-rise : (i : ℕ) (os : List Obstacle) (o count : ℕ) → count ≡ i + length (pointsOf os) →
+starts-rise : (i : ℕ) (os : List StreamObstacle) (o count : ℕ) → count ≡ i + length (pointsOf os) →
     getD (startsFrom i os) o count ≤ getD (startsFrom i os) (suc o) count
 unfolding startsFrom pointsOf
 starts-rise i [] o count e = omega arith
@@ -37,7 +37,7 @@ unfolding listed every
 every-listed test f zero i h = refl
 every-listed test f (suc n) i h = rw (h i) (every-listed test f n (suc i) h)
 
-starts-tile : (os : List Obstacle) (count : ℕ) → count ≡ length (pointsOf os) → tiles (startsFrom 0 os) count ≡ true
+starts-tile : (os : List StreamObstacle) (count : ℕ) → count ≡ length (pointsOf os) → tiles (startsFrom 0 os) count ≡ true
 unfolding tiles
 starts-tile os count e =
     rw (eq-eqb _ _ (first-start os count e), every-listed test (λ o. o) (length (startsFrom 0 os) - 0) 0 rises)
@@ -52,7 +52,7 @@ starts-tile os count e =
     rises o = le-leb (start o) (start (o + 1)) (rw (add-one o) (starts-rise 0 os o count (omega arith)))
 
 -- A time, an x and a y for each waypoint, three numbers for each obstacle, and each waypoint belongs to one obstacle.
-pub table-laid : (os : List Obstacle) → isLaid (tableOf os) ≡ true
+pub table-laid : (os : List StreamObstacle) → isLaid (tableOf os) ≡ true
 unfolding isLaid tableOf
 table-laid os =
     let ps : List Point = pointsOf os in

@@ -9,9 +9,9 @@ use lib.IntN.{ℤ}
 use lib.Ieee.{Float}
 use lib.ListN.{length, take, set, length-set, length-append}
 use lib.Seq.{take-suc-set}
-use Rattle.streams.specs.Request.{Point, Obstacle}
+use Rattle.streams.specs.Request.{Point, StreamObstacle}
 use Rattle.streams.specs.Format.{pointAt, pointsAt}
-use Rattle.requests.specs.Table.{double, startsFrom, numbersOf, pointsOf, timesOf, xsOf, ysOf}
+use Rattle.requests.specs.Table.{double, startsFrom, obstacleNumbers, pointsOf, timesOf, xsOf, ysOf}
 use Rattle.requests.specs.Laid.{PutPoints, PutTable}
 
 -- ---- Elements put one behind another.
@@ -56,16 +56,16 @@ points-next s at n i h =
 
 -- ---- A table of which o obstacles stand in the lists, with `from` waypoints in all.
 
-pub record Placed (os rest : List Obstacle) (o from : ℕ) (starts : List ℕ) (numbers : List Float) (times : List ℤ)
+pub record Placed (os rest : List StreamObstacle) (o from : ℕ) (starts : List ℕ) (numbers : List Float) (times : List ℤ)
     (xs ys : List Float) : Type 0 where
   pub many : from + length (pointsOf rest) ≡ length (pointsOf os)
   pub starts-placed : take o starts ++ startsFrom from rest ≡ startsFrom 0 os
-  pub numbers-placed : take (3 * o) numbers ++ numbersOf rest ≡ numbersOf os
+  pub numbers-placed : take (3 * o) numbers ++ obstacleNumbers rest ≡ obstacleNumbers os
   pub times-placed : take from times ++ timesOf (pointsOf rest) ≡ timesOf (pointsOf os)
   pub xs-placed : take from xs ++ xsOf (pointsOf rest) ≡ xsOf (pointsOf os)
   pub ys-placed : take from ys ++ ysOf (pointsOf rest) ≡ ysOf (pointsOf os)
 
-pub placed-first : (os : List Obstacle) (starts : List ℕ) (numbers : List Float) (times : List ℤ) (xs ys : List Float) →
+pub placed-first : (os : List StreamObstacle) (starts : List ℕ) (numbers : List Float) (times : List ℤ) (xs ys : List Float) →
     Placed os os 0 0 starts numbers times xs ys
 placed-first os starts numbers times xs ys =
     record {
@@ -86,9 +86,9 @@ points-placed : {A : Type 0} (f : Point → A) (points more : List Point) (from 
 points-placed f points more from p l l' all count put e =
     rw (count, put, append-assoc, ← map-append f points more) e
 
-pub placed-next : {os rest : List Obstacle} {o from : ℕ} {starts : List ℕ} {numbers : List Float} {times : List ℤ}
+pub placed-next : {os rest : List StreamObstacle} {o from : ℕ} {starts : List ℕ} {numbers : List Float} {times : List ℤ}
     {xs ys : List Float}
-    (next : Obstacle) (points : List Point) (p : ℕ) {numbers' : List Float} {times' : List ℤ} {xs' ys' : List Float} →
+    (next : StreamObstacle) (points : List Point) (p : ℕ) {numbers' : List Float} {times' : List ℤ} {xs' ys' : List Float} →
     Placed os (next ∷ rest) o from starts numbers times xs ys →
     o < length starts →
     points ≡ next .points →
@@ -97,7 +97,7 @@ pub placed-next : {os rest : List Obstacle} {o from : ℕ} {starts : List ℕ} {
     take (3 * o) numbers ++ (double (next .footprint) ∷ (double (next .follow) ∷ (double (next .limit) ∷ []))) →
     PutPoints points from times times' xs xs' ys ys' →
     Placed os rest (o + 1) (from + p) (set starts o from) numbers' times' xs' ys'
-unfolding pointsOf startsFrom numbersOf
+unfolding pointsOf startsFrom obstacleNumbers
 placed-next {rest = rest} {o = o} {from = from} {starts = starts} {times = times} {xs = xs} {ys = ys} next points p
     {times' = times'} {xs' = xs'} {ys' = ys'} placed room same count put-numbers put =
     let more = pointsOf rest in
@@ -115,10 +115,10 @@ placed-next {rest = rest} {o = o} {from = from} {starts = starts} {times = times
     }
 
 -- Behind the last obstacle the table is whole.
-pub placed-last : {os : List Obstacle} {o from : ℕ} {starts : List ℕ} {numbers : List Float} {times : List ℤ}
+pub placed-last : {os : List StreamObstacle} {o from : ℕ} {starts : List ℕ} {numbers : List Float} {times : List ℤ}
     {xs ys : List Float} →
     Placed os [] o from starts numbers times xs ys → o ≡ length os → PutTable os starts numbers times xs ys from
-unfolding pointsOf startsFrom numbersOf
+unfolding pointsOf startsFrom obstacleNumbers
 placed-last {os = os} {o = o} {starts = starts} {numbers = numbers} placed all =
     record {
       many = omega (arith, placed .many);

@@ -8,7 +8,7 @@ use lib.Dec.{eqb}
 use lib.IntN.{ℤ}
 use lib.Ieee.{Float}
 use lib.ListN.{take}
-use Rattle.numbers.proofs.Reach.{both}
+use Rattle.numbers.proofs.Exact.{both}
 use Rattle.shapes.specs.declared.profile.CircularProfile.{CircularProfile}
 use Rattle.shapes.specs.declared.waypoint.Leg.{Leg}
 use Rattle.obstacles.specs.Lent.{lentOf}
@@ -18,7 +18,7 @@ use Rattle.plans.specs.Plan.{Plan}
 use Rattle.streams.specs.Bits.{numberAt}
 use Rattle.streams.specs.Format.{obstaclesAt, requestAt, requestBits, areCounted, isFilled, isRequest}
 use Rattle.streams.proofs.Counts.{length-obstacles}
-use Rattle.requests.specs.Table.{profileOf, legOf, tableOf}
+use Rattle.requests.specs.Table.{requestProfile, requestLeg, tableOf}
 use Rattle.requests.specs.Laid.{PutTable}
 use Rattle.requests.specs.Asked.{requestPlan}
 
@@ -31,8 +31,8 @@ request-counted s o h e =
 
 pub same-plan : (s : List ℕ) (p : CircularProfile) (leg : Leg) (budget o n : ℕ)
     (starts : List ℕ) (numbers : List Float) (times : List ℤ) (xs ys : List Float) →
-    p ≡ profileOf (requestAt s .footprint) (requestAt s .follow) →
-    leg ≡ legOf (requestAt s) →
+    p ≡ requestProfile (requestAt s .footprint) (requestAt s .follow) →
+    leg ≡ requestLeg (requestAt s) →
     budget ≡ numberAt s 10 16 →
     o ≡ numberAt s 4 6 →
     PutTable (obstaclesAt s 510 o) starts numbers times xs ys n →

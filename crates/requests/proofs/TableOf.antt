@@ -10,17 +10,17 @@ use lib.IntN.{pos}
 use lib.ListN.{length, getD, length-append, length-map}
 use lib.Seq.{append-snoc, getD-append-add}
 use Rattle.lists.specs.Listed.{listed}
-use Rattle.floats.specs.Size.{nought}
+use Rattle.floats.specs.Constants.{nought}
 use Rattle.shapes.specs.declared.waypoint.Waypoint.{Waypoint}
 use Rattle.obstacles.specs.Obstacle as O
 use Rattle.obstacles.specs.Lent.{startIn, waypointIn, waypointsOf, boxOf, obstacleIn, obstaclesWith, obstaclesOf}
-use Rattle.streams.specs.Request.{Point, Obstacle}
+use Rattle.streams.specs.Request.{Point, StreamObstacle}
 use Rattle.requests.specs.Table.{
   double,
-  waypointOf,
+  requestWaypoint,
   obstacleOf,
   startsFrom,
-  numbersOf,
+  obstacleNumbers,
   pointsOf,
   timesOf,
   xsOf,
@@ -37,7 +37,7 @@ mapped-at f [] x behind d = refl
 mapped-at f (y ∷ before) x behind d = mapped-at f before x behind d
 
 waypoint-at : (before : List Point) (p : Point) (behind all : List Point) → before ++ (p ∷ behind) ≡ all →
-    waypointIn (timesOf all) (xsOf all) (ysOf all) (length before) ≡ waypointOf p
+    waypointIn (timesOf all) (xsOf all) (ysOf all) (length before) ≡ requestWaypoint p
 waypoint-at before p behind all e =
     rw (
       ← e,
@@ -48,7 +48,7 @@ waypoint-at before p behind all e =
 
 -- A run of waypoints is what the lists have from its place on.
 waypoints-run : (before ps behind all : List Point) → before ++ (ps ++ behind) ≡ all →
-    listed (waypointIn (timesOf all) (xsOf all) (ysOf all)) (length ps) (length before) ≡ map waypointOf ps
+    listed (waypointIn (timesOf all) (xsOf all) (ysOf all)) (length ps) (length before) ≡ map requestWaypoint ps
 unfolding listed
 waypoints-run before [] behind all e = refl
 waypoints-run before (p ∷ ps) behind all e =
@@ -56,34 +56,34 @@ waypoints-run before (p ∷ ps) behind all e =
     let next : length (before ++ (p ∷ [])) ≡ suc (length before) = omega (arith, length-append before (p ∷ [])) in
     let on = waypoints-run (before ++ (p ∷ [])) ps behind all (append-snoc before p (ps ++ behind) ∙ e) in
     ap (λ x. x ∷ listed w (length ps) (suc (length before))) (waypoint-at before p (ps ++ behind) all e) ∙
-    ap (λ l. waypointOf p ∷ l) (ap (λ k. listed w (length ps) k) (sym next) ∙ on)
+    ap (λ l. requestWaypoint p ∷ l) (ap (λ k. listed w (length ps) k) (sym next) ∙ on)
 
 -- ---- Obstacles.
 
-numbers-run : (before os : List Obstacle) → numbersOf (before ++ os) ≡ numbersOf before ++ numbersOf os
-unfolding numbersOf
+numbers-run : (before os : List StreamObstacle) → obstacleNumbers (before ++ os) ≡ obstacleNumbers before ++ obstacleNumbers os
+unfolding obstacleNumbers
 numbers-run [] os = refl
 numbers-run (o ∷ before) os =
     ap (λ l. double (o .footprint) ∷ (double (o .follow) ∷ (double (o .limit) ∷ l))) (numbers-run before os)
 
-pub numbers-count : (os : List Obstacle) → length (numbersOf os) ≡ 3 * length os
-unfolding numbersOf
+pub numbers-count : (os : List StreamObstacle) → length (obstacleNumbers os) ≡ 3 * length os
+unfolding obstacleNumbers
 numbers-count [] = refl
 numbers-count (o ∷ os) = omega (arith, numbers-count os)
 
-points-run : (before os : List Obstacle) → pointsOf (before ++ os) ≡ pointsOf before ++ pointsOf os
+points-run : (before os : List StreamObstacle) → pointsOf (before ++ os) ≡ pointsOf before ++ pointsOf os
 unfolding pointsOf
 points-run [] os = refl
 points-run (o ∷ before) os =
     ap (λ l. o .points ++ l) (points-run before os) ∙ sym (append-assoc (o .points) (pointsOf before) (pointsOf os))
 
-points-split : (before : List Obstacle) (o : Obstacle) (behind : List Obstacle) →
+points-split : (before : List StreamObstacle) (o : StreamObstacle) (behind : List StreamObstacle) →
     pointsOf before ++ (o .points ++ pointsOf behind) ≡ pointsOf (before ++ (o ∷ behind))
 unfolding pointsOf
 points-split before o behind = sym (points-run before (o ∷ behind))
 
 -- Each begins behind the waypoints of those before it,
-start-at : (i : ℕ) (before : List Obstacle) (o : Obstacle) (behind : List Obstacle) (d : ℕ) →
+start-at : (i : ℕ) (before : List StreamObstacle) (o : StreamObstacle) (behind : List StreamObstacle) (d : ℕ) →
     getD (startsFrom i (before ++ (o ∷ behind))) (length before) d ≡ i + length (pointsOf before)
 unfolding startsFrom pointsOf
 start-at i [] o behind d = sym (add-zero i)
@@ -92,7 +92,7 @@ start-at i (q ∷ before) o behind d =
     omega (arith, length-append (q .points) (pointsOf before))
 
 -- and ends where the next one begins, or at the end of all.
-end-at : (i : ℕ) (before : List Obstacle) (o : Obstacle) (behind : List Obstacle) (count : ℕ) →
+end-at : (i : ℕ) (before : List StreamObstacle) (o : StreamObstacle) (behind : List StreamObstacle) (count : ℕ) →
     count ≡ i + length (pointsOf (before ++ (o ∷ behind))) →
     getD (startsFrom i (before ++ (o ∷ behind))) (suc (length before)) count ≡
     i + length (pointsOf before) + length (o .points)
@@ -105,16 +105,16 @@ end-at i (q ∷ before) o behind count e =
     omega (arith, length-append (q .points) (pointsOf before))
 
 -- An obstacle with others before it and behind it, in the table of all.
-module _ (before : List Obstacle) (o : Obstacle) (behind : List Obstacle) where
-  abbrev all : List Obstacle
+module _ (before : List StreamObstacle) (o : StreamObstacle) (behind : List StreamObstacle) where
+  abbrev all : List StreamObstacle
   all = before ++ (o ∷ behind)
 
-  numbers-at : (k : ℕ) → getD (numbersOf all) (3 * length before + k) nought ≡ getD (numbersOf (o ∷ behind)) k nought
+  numbers-at : (k : ℕ) → getD (obstacleNumbers all) (3 * length before + k) nought ≡ getD (obstacleNumbers (o ∷ behind)) k nought
   numbers-at k =
-      let place : 3 * length before + k ≡ length (numbersOf before) + k = omega (arith, numbers-count before) in
-      rw (numbers-run before (o ∷ behind), place) (getD-append-add (numbersOf before) (numbersOf (o ∷ behind)) k nought)
+      let place : 3 * length before + k ≡ length (obstacleNumbers before) + k = omega (arith, numbers-count before) in
+      rw (numbers-run before (o ∷ behind), place) (getD-append-add (obstacleNumbers before) (obstacleNumbers (o ∷ behind)) k nought)
 
-  waypoints-at : waypointsOf (tableOf all) (length before) ≡ map waypointOf (o .points)
+  waypoints-at : waypointsOf (tableOf all) (length before) ≡ map requestWaypoint (o .points)
   unfolding waypointsOf tableOf
   waypoints-at =
       let points : List Point = pointsOf all in
@@ -132,13 +132,13 @@ module _ (before : List Obstacle) (o : Obstacle) (behind : List Obstacle) where
       waypoints-run (pointsOf before) (o .points) (pointsOf behind) points (points-split before o behind)
 
   obstacle-at : obstacleIn (tableOf all) (boxOf (tableOf all)) (length before) ≡ obstacleOf o
-  unfolding obstacleOf boxOf tableOf numbersOf
+  unfolding obstacleOf boxOf tableOf obstacleNumbers
   obstacle-at =
-      let footprint = ap (λ k. getD (numbersOf all) k nought) (sym (add-zero (3 * length before))) ∙ numbers-at 0 in
+      let footprint = ap (λ k. getD (obstacleNumbers all) k nought) (sym (add-zero (3 * length before))) ∙ numbers-at 0 in
       rw (waypoints-at, footprint, numbers-at 1, numbers-at 2)
 
 -- From the obstacles behind some others,
-obstacles-run : (before os all : List Obstacle) → before ++ os ≡ all →
+obstacles-run : (before os all : List StreamObstacle) → before ++ os ≡ all →
     listed (obstacleIn (tableOf all) (boxOf (tableOf all))) (length os) (length before) ≡ map obstacleOf os
 unfolding listed
 obstacles-run before [] all e = refl
@@ -150,13 +150,13 @@ obstacles-run before (o ∷ os) all e =
     ap (λ x. x ∷ listed f (length os) (suc (length before))) (split ∙ obstacle-at before o os) ∙
     ap (λ l. obstacleOf o ∷ l) (ap (λ k. listed f (length os) k) (sym next) ∙ on)
 
-pub starts-count : (i : ℕ) (os : List Obstacle) → length (startsFrom i os) ≡ length os
+pub starts-count : (i : ℕ) (os : List StreamObstacle) → length (startsFrom i os) ≡ length os
 unfolding startsFrom
 starts-count i [] = refl
 starts-count i (o ∷ os) = ap suc (starts-count (i + length (o .points)) os)
 
 -- so of all: the table of a request's obstacles stands for them, each with its own waypoints and box.
-pub table-obstacles : (os : List Obstacle) → obstaclesOf (tableOf os) ≡ map obstacleOf os
+pub table-obstacles : (os : List StreamObstacle) → obstaclesOf (tableOf os) ≡ map obstacleOf os
 unfolding obstaclesOf obstaclesWith tableOf
 table-obstacles os =
     ap (λ n. listed (obstacleIn (tableOf os) (boxOf (tableOf os))) n 0) (sub-zero _ ∙ starts-count 0 os) ∙

@@ -2,15 +2,16 @@
 -- Assumes nothing.
 use Prim.Native.Nat.{ℕ}
 use mathlib.Core.List.{List}
+use Rattle.refusals.specs.Names.{SHAPE}
 use Rattle.plans.specs.Asked.{askedPlan}
 use Rattle.plans.specs.Plan.{Plan, Refused}
 use Rattle.streams.specs.Request.{Request, Reading, Of, Malformed}
 use Rattle.streams.specs.Format.{readOf}
-use Rattle.requests.specs.Table.{profileOf, legOf, tableOf}
+use Rattle.requests.specs.Table.{requestProfile, requestLeg, tableOf}
 
 -- The plan for a request.
 unfoldable pub requestPlan : Request → Plan
-requestPlan r = askedPlan (profileOf (r .footprint) (r .follow)) (legOf r) (r .budget) (tableOf (r .obstacles))
+requestPlan r = askedPlan (requestProfile (r .footprint) (r .follow)) (requestLeg r) (r .budget) (tableOf (r .obstacles))
 
 -- A malformed stream is refused 2 (RULES 14.17).
 unfoldable pub streamPlan : List ℕ → Plan
@@ -18,4 +19,4 @@ streamPlan s = by (readOf s)
   where
     by : Reading → Plan
     by (Of r) = requestPlan r
-    by Malformed = Refused 2
+    by Malformed = Refused SHAPE

@@ -11,7 +11,7 @@ use Rattle.shapes.specs.declared.waypoint.Waypoint.{Waypoint}
 use Rattle.obstacles.specs.Obstacle as O
 use Rattle.obstacles.specs.Obstacle.{boxOfTrajectory}
 use Rattle.obstacles.specs.Lent.{Lent, lentOf}
-use Rattle.streams.specs.Request.{Point, Obstacle, Request}
+use Rattle.streams.specs.Request.{Point, StreamObstacle, Request}
 
 -- The double of 64 bits (RULES 14.14).
 abbrev pub double : ℕ → Float
@@ -19,40 +19,40 @@ double w = ofBits binary64 w
 
 -- ---- The agent.
 
-abbrev pub waypointOf : Point → Waypoint
-waypointOf p = record { time = record { 0 = pos (p .time) }; x = double (p .x); y = double (p .y) }
+abbrev pub requestWaypoint : Point → Waypoint
+requestWaypoint p = record { time = record { 0 = pos (p .time) }; x = double (p .x); y = double (p .y) }
 
-abbrev pub profileOf : ℕ → ℕ → CircularProfile
-profileOf footprint follow = record { footprint = double footprint; follow = double follow }
+abbrev pub requestProfile : ℕ → ℕ → CircularProfile
+requestProfile footprint follow = record { footprint = double footprint; follow = double follow }
 
-unfoldable pub legOf : Request → Leg
-legOf r = record { start = waypointOf (r .from); end = waypointOf (r .to) }
+unfoldable pub requestLeg : Request → Leg
+requestLeg r = record { start = requestWaypoint (r .from); end = requestWaypoint (r .to) }
 
 -- ---- The obstacles.
 
 -- What an obstacle of the request is: its profile, the conflict distance squared that it carries, its waypoints, its box
 -- (RULES 2.16, 7.10).
-unfoldable pub obstacleOf : Obstacle → O.Obstacle
+unfoldable pub obstacleOf : StreamObstacle → O.Obstacle
 obstacleOf o =
     record {
-      profile = profileOf (o .footprint) (o .follow);
+      profile = requestProfile (o .footprint) (o .follow);
       limit = double (o .limit);
-      waypoints = map waypointOf (o .points);
-      bounds = boxOfTrajectory (double (o .footprint)) (map waypointOf (o .points));
+      waypoints = map requestWaypoint (o .points);
+      bounds = boxOfTrajectory (double (o .footprint)) (map requestWaypoint (o .points));
     }
 
 -- Where the waypoints of each obstacle begin, when i stand before them.
-unfoldable pub startsFrom : ℕ → List Obstacle → List ℕ
+unfoldable pub startsFrom : ℕ → List StreamObstacle → List ℕ
 startsFrom i [] = []
 startsFrom i (o ∷ os) = i ∷ startsFrom (i + length (o .points)) os
 
 -- Three numbers for each.
-unfoldable pub numbersOf : List Obstacle → List Float
-numbersOf [] = []
-numbersOf (o ∷ os) = double (o .footprint) ∷ (double (o .follow) ∷ (double (o .limit) ∷ numbersOf os))
+unfoldable pub obstacleNumbers : List StreamObstacle → List Float
+obstacleNumbers [] = []
+obstacleNumbers (o ∷ os) = double (o .footprint) ∷ (double (o .follow) ∷ (double (o .limit) ∷ obstacleNumbers os))
 
 -- The waypoints of all, one obstacle behind another.
-unfoldable pub pointsOf : List Obstacle → List Point
+unfoldable pub pointsOf : List StreamObstacle → List Point
 pointsOf [] = []
 pointsOf (o ∷ os) = o .points ++ pointsOf os
 
@@ -65,6 +65,6 @@ xsOf ps = map (λ p. double (p .x)) ps
 abbrev pub ysOf : List Point → List Float
 ysOf ps = map (λ p. double (p .y)) ps
 
-unfoldable pub tableOf : List Obstacle → Lent
+unfoldable pub tableOf : List StreamObstacle → Lent
 tableOf os =
-    lentOf (startsFrom 0 os) (numbersOf os) (timesOf (pointsOf os)) (xsOf (pointsOf os)) (ysOf (pointsOf os))
+    lentOf (startsFrom 0 os) (obstacleNumbers os) (timesOf (pointsOf os)) (xsOf (pointsOf os)) (ysOf (pointsOf os))

@@ -51,8 +51,8 @@ pub fn plan(s: &[u8], paths: &mut [u64], actions: &mut [u64]) -> u64
     ensures { λ r. ⌜ PlanHanded (streamPlan (now (s .entry))) (now (paths .entry)) (now (paths .exit)) (now (actions .entry)) (now (actions .exit)) r ⌝ }
 {
     if !format::is_request(s) {
-        words::refuse(paths, 2);
-        return words::refuse(actions, 2);
+        words::refuse(paths, refusals::SHAPE);
+        return words::refuse(actions, refusals::SHAPE);
     }
     plan_request(s, paths, actions)
 }

@@ -9,7 +9,7 @@ ghost use mathlib.Core.Path.{_≡_};
 ghost use Prim.Native.Nat.{_≤_, _+_};
 ghost use Rattle.streams.specs.Bits.{numberAt};
 ghost use Rattle.streams.specs.Format.{pointAt, requestAt};
-ghost use Rattle.requests.specs.Table.{double, waypointOf, profileOf, legOf};
+ghost use Rattle.requests.specs.Table.{double, requestWaypoint, requestProfile, requestLeg};
 
 // A double of 64 bits.
 pub(crate) fn double_at(s: &[u8], at: usize) -> f64
@@ -21,7 +21,7 @@ pub(crate) fn double_at(s: &[u8], at: usize) -> f64
 // Footprint and follow buffer.
 fn profile_at(s: &[u8], at: usize) -> CircularProfile
     requires { ⌜ at ≤ 500_000 ⌝ }
-    ensures { λ r. ⌜ r ≡ profileOf (numberAt (now (s .entry)) at 64) (numberAt (now (s .entry)) (at + 64) 64) ⌝ }
+    ensures { λ r. ⌜ r ≡ requestProfile (numberAt (now (s .entry)) at 64) (numberAt (now (s .entry)) (at + 64) 64) ⌝ }
 {
     CircularProfile {
         footprint: double_at(s, at),
@@ -32,7 +32,7 @@ fn profile_at(s: &[u8], at: usize) -> CircularProfile
 // A time of 50 bits and a place.
 pub(crate) fn waypoint_at(s: &[u8], at: usize) -> Waypoint
     requires { ⌜ at ≤ 500_000 ⌝ }
-    ensures { λ r. ⌜ r ≡ waypointOf (pointAt (now (s .entry)) at) ⌝ }
+    ensures { λ r. ⌜ r ≡ requestWaypoint (pointAt (now (s .entry)) at) ⌝ }
 {
     let time = bits::number_at(s, at, 50);
     Waypoint {
@@ -44,14 +44,14 @@ pub(crate) fn waypoint_at(s: &[u8], at: usize) -> Waypoint
 
 // The agent's profile.
 pub(crate) fn profile_of(s: &[u8]) -> CircularProfile
-    ensures { λ r. ⌜ r ≡ profileOf (requestAt (now (s .entry)) .footprint) (requestAt (now (s .entry)) .follow) ⌝ }
+    ensures { λ r. ⌜ r ≡ requestProfile (requestAt (now (s .entry)) .footprint) (requestAt (now (s .entry)) .follow) ⌝ }
 {
     profile_at(s, 26)
 }
 
 // The agent's way.
 pub(crate) fn leg_of(s: &[u8]) -> Leg
-    ensures { λ r. ⌜ r ≡ legOf (requestAt (now (s .entry))) ⌝ }
+    ensures { λ r. ⌜ r ≡ requestLeg (requestAt (now (s .entry))) ⌝ }
 {
     Leg {
         start: waypoint_at(s, 154),

@@ -13,7 +13,7 @@ use lib.Ieee.Fits.{kept-lt}
 use lib.Ieee.Bits.{ofBits-toBits}
 use lib.Ieee.Positive.{positive}
 use Rattle.root.specs.Digits.{rootPattern}
-use Rattle.root.specs.Root.{units, rootOf}
+use Rattle.root.specs.Root.{leastUnits, rootOf}
 use Rattle.root.specs.declared.nearest.Root.the-variants.{Of, Refused}
 use Rattle.root.proofs.Units.{above, bits-is}
 
@@ -23,7 +23,7 @@ zero-bits s e = rw (zero-mul (up e), zero-mul (2 ^ 1074), zero-div (down e)) (om
 
 finite-bits : (x : Float) → T (fits binary64 x) → T (positive x) → toBits binary64 x < 0x7ff0_0000_0000_0000
 finite-bits x f p =
-    let X = units x in
+    let X = leastUnits x in
     omega (arith, bits-is x p, size-le X 2098 (above x f p .under), kept-lt 53 X)
 
 pub zero-rooted : (x : Float) → T (fits binary64 x) → toBits binary64 x ≡ 0 → Of x ≡ rootOf x
@@ -53,7 +53,7 @@ above-zero (fin true m e) h l = omega arith
 above-zero (fin false zero e) h l = omega (arith, zero-bits false e)
 above-zero (fin false (suc m) e) h l = lt→ltb 0 (suc m) (zero-lt-suc m)
 
-pub above-rooted : (x : Float) → T (positive x) → Of (ofBits binary64 (rootPattern (units x))) ≡ rootOf x
+pub above-rooted : (x : Float) → T (positive x) → Of (ofBits binary64 (rootPattern (leastUnits x))) ≡ rootOf x
 unfolding rootOf
 above-rooted (fin false (suc m) e) p = refl
 above-rooted (fin false zero e) p = absurd p

@@ -5,7 +5,7 @@ use mathlib.Core.Bool.{true, false}
 use lib.IntN.{pos, negsuc}
 use lib.Ieee.{nan, inf, fin, size, ofBits}
 use Rattle.root.specs.Digits.{wholeRoot, rootPattern}
-use Rattle.root.specs.Root.{units, rootOf}
+use Rattle.root.specs.Root.{leastUnits, rootOf}
 use Rattle.root.specs.declared.nearest.Root.the-variants.{Of, Refused}
 
 pub record Examples : Type 0 where
@@ -18,7 +18,7 @@ pub record Examples : Type 0 where
   pub of-nan : rootOf nan ≡ Refused
 
 pub examples : Examples
-unfolding rootOf units rootPattern wholeRoot ofBits size
+unfolding rootOf leastUnits rootPattern wholeRoot ofBits size
 examples = record {
   of-four = refl;
   of-two = refl;

@@ -9,7 +9,7 @@ use lib.Dec.{T}
 use lib.Ieee.{Float, nan, inf, fin, le}
 use lib.Ieee.Fits.{up-pos}
 use lib.Ieee.Scale.{finite}
-use Rattle.floats.specs.Size.{nought}
+use Rattle.floats.specs.Constants.{nought}
 use Rattle.floats.proofs.Monotone.{nonneg-under}
 use Rattle.root.specs.Root.{rootOf}
 use Rattle.root.specs.declared.nearest.Root.the-variants.{Of}

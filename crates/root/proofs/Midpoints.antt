@@ -10,7 +10,7 @@ use lib.Arith.{lt-of-le-ne}
 use lib.Pow.{pow-add, pow-pos, pow-mono, shl-lt}
 use lib.Ieee.{size}
 use lib.Ieee.Digits.{size-lt, size-le}
-use Rattle.root.specs.Digits.{square, widened, Spells}
+use Rattle.root.specs.Digits.{square, paired, Spells}
 use Rattle.root.specs.Root.{gapAbove, gapBelow, Encloses}
 use Rattle.root.proofs.WholeRoot.{IsWhole, lt-of-squares}
 
@@ -20,21 +20,21 @@ size-exact a n lo hi =
     (N.lt-of-not-le (λ (g : size n ≤ a). N.not-le-of-lt (N.lt-of-lt-of-le (size-lt n) (pow-mono g)) lo))
 
 -- The widened digits are even, and of such a size that their whole root has 54 digits that are not all ones.
-widened-even : (m j : ℕ) → widened m j % 2 ≡ 0
+widened-even : (m j : ℕ) → paired m j % 2 ≡ 0
 widened-even m j =
-    let doubled : widened m j ≡ m * 2 ^ 53 * 2 ^ (j % 2) * 2 = rw (pow-add 2 54 (j % 2)) (omega arith) in
+    let doubled : paired m j ≡ m * 2 ^ 53 * 2 ^ (j % 2) * 2 = rw (pow-add 2 54 (j % 2)) (omega arith) in
     rw doubled (N.mul-mod-left (m * 2 ^ 53 * 2 ^ (j % 2)) 2)
 
-widened-least : (m j : ℕ) → 2 ^ 52 ≤ m → 2 ^ 106 ≤ widened m j
+widened-least : (m j : ℕ) → 2 ^ 52 ≤ m → 2 ^ 106 ≤ paired m j
 widened-least m j h = let zeros : 54 ≤ 54 + j % 2 = omega arith in N.mul-le-mul h (pow-mono zeros)
 
-widened-most : (m j : ℕ) → m < 2 ^ 53 → widened m j < square 0x3f_ffff_ffff_ffff
+widened-most : (m j : ℕ) → m < 2 ^ 53 → paired m j < square 0x3f_ffff_ffff_ffff
 widened-most m j h =
     let digits : m ≤ 0x1f_ffff_ffff_ffff = omega arith in
     let zeros : 54 + j % 2 ≤ 55 = omega arith in
     N.lt-of-le-of-lt (N.mul-le-mul digits (pow-mono zeros)) (lit< tt)
 
-pub widened-lt : (m j : ℕ) → m < 2 ^ 53 → widened m j < 4 ^ 54
+pub widened-lt : (m j : ℕ) → m < 2 ^ 53 → paired m j < 4 ^ 54
 widened-lt m j h = N.lt-trans (widened-most m j h) (lit< tt)
 
 -- The digits q that a double keeps of the root of n: neither midpoint next to them is met.
@@ -48,9 +48,9 @@ pub record Kept (n q : ℕ) : Type 0 where
 odd-square : (c n : ℕ) → n % 2 ≡ 0 → square (2 * c + 1) ≡ n → ⊥
 odd-square c n even e = omega arith
 
-pub kept : (X m j s : ℕ) → Spells X m j → IsWhole (widened m j) s → Kept (widened m j) ((s + 1) / 2)
+pub kept : (X m j s : ℕ) → Spells X m j → IsWhole (paired m j) s → Kept (paired m j) ((s + 1) / 2)
 kept X m j s d w =
-    let n = widened m j in
+    let n = paired m j in
     let q = (s + 1) / 2 in
     let lo : 2 ^ 53 < s + 1 = lt-of-squares (2 ^ 53) (s + 1) (N.lt-of-le-of-lt (widened-least m j (d .least)) (w .high)) in
     let hi : s < 0x3f_ffff_ffff_ffff = lt-of-squares s 0x3f_ffff_ffff_ffff (N.lt-of-le-of-lt (w .low) (widened-most m j (d .most))) in
@@ -70,14 +70,14 @@ in-fours : (X m p v u : ℕ) → m * p ≡ X * v → 4 * (X * (v * u)) ≡ m * (
 in-fours X m p v u e = omega (arith, ap (λ (z : ℕ). z * u) e)
 
 -- Four times X, as it is compared, is the widened digits times a square.
-scaled : (X m j : ℕ) → Spells X m j → 4 * (X * 2 ^ 1074) ≡ widened m j * square (2 ^ (j / 2 + 485))
+scaled : (X m j : ℕ) → Spells X m j → 4 * (X * 2 ^ 1074) ≡ paired m j * square (2 ^ (j / 2 + 485))
 scaled X m j d =
     let k = j / 2 + 485 in
     let places : j + 1024 ≡ 54 + j % 2 + (k + k) = omega arith in
     in-fours X m (2 ^ j) (2 ^ 52) (2 ^ 1022) (d .value)
     ∙ ap (λ (z : ℕ). m * z) (sym (pow-add 2 j 1024) ∙ ap (λ (z : ℕ). 2 ^ z) places ∙ pow-add 2 (54 + j % 2) (k + k))
     ∙ sym (N.mul-assoc m (2 ^ (54 + j % 2)) (2 ^ (k + k)))
-    ∙ ap (λ (z : ℕ). widened m j * z) (pow-add 2 k k)
+    ∙ ap (λ (z : ℕ). paired m j * z) (pow-add 2 k k)
 
 -- The gaps next to q * 2^k, for a q of 53 digits.
 gap : (n k : ℕ) → 2 ^ (52 + k) ≤ n → n < 2 ^ (53 + k) → 2 ^ (size n - 53) ≡ 2 ^ k
@@ -128,10 +128,10 @@ upper n q k h =
     let is : 2 * (q * 2 ^ k) + 2 ^ k ≡ (2 * q + 1) * 2 ^ k = omega arith in
     rw (above-is q k (h .least) (h .most), is) (squares-over (2 * q + 1) n (2 ^ k) (pow-pos k) (h .over))
 
-pub encloses : (X m j q : ℕ) → Spells X m j → Kept (widened m j) q → Encloses X (q * 2 ^ (j / 2 + 485))
+pub encloses : (X m j q : ℕ) → Spells X m j → Kept (paired m j) q → Encloses X (q * 2 ^ (j / 2 + 485))
 encloses X m j q d h =
     let k = j / 2 + 485 in
     record {
-      lower = rw (scaled X m j d) (lower (widened m j) q k (omega arith) (widened-least m j (d .least)) h);
-      upper = rw (scaled X m j d) (upper (widened m j) q k h);
+      lower = rw (scaled X m j d) (lower (paired m j) q k (omega arith) (widened-least m j (d .least)) h);
+      upper = rw (scaled X m j d) (upper (paired m j) q k h);
     }

@@ -6,7 +6,7 @@ use Prim.Native.Nat.{ℕ, zero, suc, _+_, _-_, _*_, _≤_, _<_}
 use native.Mathlib.Nat as N
 use native.Mathlib.Omega.{arith}
 use lib.Ieee.{Float, nan, inf, fin}
-use Rattle.root.specs.Root.{units, gapAbove, gapBelow, Encloses, Rounded, IsRoot}
+use Rattle.root.specs.Root.{leastUnits, gapAbove, gapBelow, Encloses, Rounded, IsRoot}
 use Rattle.root.specs.declared.nearest.Root.{Root}
 use Rattle.root.specs.declared.nearest.Root.the-variants.{Of}
 use Rattle.root.proofs.Units.{Short, above, same-double}
@@ -30,7 +30,7 @@ one-rounded x y z r s =
     let Y = above y (r .held) (r .above-zero) in
     let Z = above z (s .held) (s .above-zero) in
     same-double y z (r .held) (s .held) (r .above-zero) (s .above-zero)
-    (one-enclosed (units x) (units y) (units z) (Y .short) (Z .short) (r .nearest) (s .nearest))
+    (one-enclosed (leastUnits x) (leastUnits y) (leastUnits z) (Y .short) (Z .short) (r .nearest) (s .nearest))
 
 pub only : (x : Float) (r s : Root) → IsRoot x r → IsRoot x s → r ≡ s
 unfolding IsRoot

@@ -7,7 +7,7 @@ use native.Mathlib.Omega.{arith}
 use lib.Pow.{pow-add, pow-pos, pow-mono}
 use lib.Ieee.{size}
 use lib.Ieee.Digits.{size-lt, size-reaches}
-use Rattle.root.specs.Digits.{wholeRoot, Spells, widened, rootPattern}
+use Rattle.root.specs.Digits.{wholeRoot, Spells, paired, rootPattern}
 use Rattle.root.proofs.Units.{Short}
 use Rattle.root.proofs.Neighbours.{coarse, short-size}
 use Rattle.root.proofs.Midpoints.{size-exact}
@@ -19,7 +19,7 @@ size-is X m j d =
     (N.le-of-mul-le-mul-right (omega (arith, N.mul-le-mul-right (2 ^ j) (d .least), d .value)) (pow-pos 52))
     (N.lt-of-mul-lt-mul-right (2 ^ 52) (rw (N.pow-suc 2 j) (omega (arith, N.mul-lt-mul-of-pos-right (d .most) (pow-pos j), d .value))))
 
-pub pattern-is : (X m j : ℕ) → Spells X m j → rootPattern X ≡ (j / 2 + 485) * 2 ^ 52 + (wholeRoot 54 (widened m j) + 1) / 2
+pub pattern-is : (X m j : ℕ) → Spells X m j → rootPattern X ≡ (j / 2 + 485) * 2 ^ 52 + (wholeRoot 54 (paired m j) + 1) / 2
 unfolding rootPattern
 pattern-is X m j d =
     let place : size X - 1 ≡ j = omega (arith, size-is X m j d) in

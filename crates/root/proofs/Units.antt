@@ -13,7 +13,7 @@ use lib.Ieee.Fits.{and-l, and-r, down-pos}
 use lib.Ieee.Bits.{ofBits-toBits}
 use lib.Ieee.Exact.{HasValue}
 use lib.Ieee.Positive.{den, positive, den-pos, value→cross}
-use Rattle.root.specs.Root.{units}
+use Rattle.root.specs.Root.{leastUnits}
 
 -- At most 53 digits, and zeros behind them.
 pub record Short (n : ℕ) : Type 0 where
@@ -68,8 +68,8 @@ pub record Above (x : Float) (n : ℕ) : Type 0 where
   pub under : n < 2 ^ 2098
   pub value : HasValue x false n (2 ^ 1074)
 
-pub above : (x : Float) → T (fits binary64 x) → T (positive x) → Above x (units x)
-unfolding units
+pub above : (x : Float) → T (fits binary64 x) → T (positive x) → Above x (leastUnits x)
+unfolding leastUnits
 above (fin false (suc m) e) f p =
     let h = held false m e f in
     let j = zeros e (h .whole) .0 in
@@ -86,23 +86,23 @@ above (fin true m e) f p = absurd p
 above (inf s) f p = absurd p
 above nan f p = absurd p
 
-pub units-is : (x : Float) (n : ℕ) → HasValue x false n (2 ^ 1074) → units x ≡ n
-unfolding units
+pub units-is : (x : Float) (n : ℕ) → HasValue x false n (2 ^ 1074) → leastUnits x ≡ n
+unfolding leastUnits
 units-is x n h = ap (λ (k : ℕ). k / den x) (value→cross x n (2 ^ 1074) h) ∙ N.mul-div-cancel n (den-pos x)
 
 -- The bits, by the units.
 abbrev pub bits : ℕ → ℕ
 bits n = (size n - 53) * 2 ^ 52 + n / 2 ^ (size n - 53)
 
-pub bits-is : (x : Float) → T (positive x) → toBits binary64 x ≡ bits (units x)
-unfolding toBits units
+pub bits-is : (x : Float) → T (positive x) → toBits binary64 x ≡ bits (leastUnits x)
+unfolding toBits leastUnits
 bits-is (fin false m e) p = omega arith
 bits-is (fin true m e) p = absurd p
 bits-is (inf s) p = absurd p
 bits-is nan p = absurd p
 
 pub same-double : (x y : Float) →
-    T (fits binary64 x) → T (fits binary64 y) → T (positive x) → T (positive y) → units x ≡ units y → x ≡ y
+    T (fits binary64 x) → T (fits binary64 y) → T (positive x) → T (positive y) → leastUnits x ≡ leastUnits y → x ≡ y
 same-double x y f g p q e =
     sym (ofBits-toBits binary64 x f)
     ∙ ap (ofBits binary64) (bits-is x p ∙ ap bits e ∙ sym (bits-is y q))

@@ -21,8 +21,8 @@ pub record Spells (X m j : ℕ) : Type 0 where
   pub most : m < 2 ^ 53
 
 -- The digits m with 54 zeros behind them, or 55 where j is odd, so that an even power of two is left to root.
-abbrev pub widened : ℕ → ℕ → ℕ
-widened m j = m * 2 ^ (54 + j % 2)
+abbrev pub paired : ℕ → ℕ → ℕ
+paired m j = m * 2 ^ (54 + j % 2)
 
 -- The bits of the root of X units, for an X above zero of at most 53 digits. In units it is the root of the widened digits times
 -- 2^(j / 2 + 484). Their whole root has 54 digits, one more than a double keeps, and goes up where the last is 1. A double of q * 2^k
@@ -31,4 +31,4 @@ unfoldable pub rootPattern : ℕ → ℕ
 rootPattern X =
     let j = size X - 1 in
     let m = X * 2 ^ 52 / 2 ^ j in
-    (j / 2 + 485) * 2 ^ 52 + (wholeRoot 54 (widened m j) + 1) / 2
+    (j / 2 + 485) * 2 ^ 52 + (wholeRoot 54 (paired m j) + 1) / 2

@@ -7,14 +7,15 @@ use mathlib.Core.List.{[], _∷_}
 use lib.Dec.{T}
 use lib.Ieee.{Float, nan, inf, fin, binary64, size, fits, ofBits, toBits}
 use lib.Ieee.Positive.{num, den, positive}
+use Rattle.refusals.specs.Names.{NUMBER}
 use Rattle.lists.specs.Outcome.{Outcome, Gives, Refuses}
 use Rattle.root.specs.Digits.{square, rootPattern}
 use Rattle.root.specs.declared.nearest.Root.{Root}
 use Rattle.root.specs.declared.nearest.Root.the-variants.{Of, Refused}
 
 -- The size of a finite double as a whole number of units of 2^-1074, the least double above zero (IEEE 754, binary64).
-unfoldable pub units : Float → ℕ
-units x = num x * 2 ^ 1074 / den x
+unfoldable pub leastUnits : Float → ℕ
+leastUnits x = num x * 2 ^ 1074 / den x
 
 -- How far above a double of Y units the next one is: one at the last of the 53 digits that a double keeps (IEEE 754, binary64).
 abbrev pub gapAbove : ℕ → ℕ
@@ -34,7 +35,7 @@ pub record Encloses (X Y : ℕ) : Type 0 where
 pub record Rounded (x y : Float) : Type 0 where
   pub held : T (fits binary64 y)
   pub above-zero : T (positive y)
-  pub nearest : Encloses (units x) (units y)
+  pub nearest : Encloses (leastUnits x) (leastUnits y)
 
 -- The answer that each double has: NaN, an infinity and what is below zero a refusal, a zero itself, all else its root (RULES 6.5).
 unfoldable pub IsRoot : Float → Root → Type 0
@@ -50,9 +51,14 @@ rootOf nan = Refused
 rootOf (inf s) = Refused
 rootOf (fin s zero e) = Of (fin s zero e)
 rootOf (fin true (suc m) e) = Refused
-rootOf (fin false (suc m) e) = Of (ofBits binary64 (rootPattern (units (fin false (suc m) e))))
+rootOf (fin false (suc m) e) = Of (ofBits binary64 (rootPattern (leastUnits (fin false (suc m) e))))
+
+-- Going on with a root; what follows where there is none is said first.
+abbrev pub withRoot : {A : Type 0} → A → Root → (Float → A) → A
+withRoot refused (Of y) go = go y
+withRoot refused Refused go = refused
 
 -- The word of a root, or the number of the refusal (RULES 4.1).
 abbrev pub rootOutcome : Root → Outcome
 rootOutcome (Of y) = Gives (toBits binary64 y ∷ [])
-rootOutcome Refused = Refuses 1
+rootOutcome Refused = Refuses NUMBER

@@ -3,7 +3,7 @@ ghost use mathlib.Core.Path.{_≡_};
 ghost use Prim.Native.Nat.{_*_, _^_, _≤_, _<_};
 ghost use lib.Ieee.{binary64, ofBits};
 ghost use Rattle.root.specs.Digits.{wholeRoot, Spells, rootPattern};
-ghost use Rattle.root.specs.Root.{units, IsRoot, rootOf};
+ghost use Rattle.root.specs.Root.{leastUnits, IsRoot, rootOf};
 
 // The root, or refusal 1.
 pub enum Root {
@@ -66,7 +66,7 @@ fn moved_up(t: u64) -> Digits
 // The digits of the finite double above zero that has the bits b, in units of the least such double.
 fn digits_of(b: u64) -> Digits
     requires { ⌜ (0 < b) × (b < 0x7ff0_0000_0000_0000) ⌝ }
-    ensures { λ d. ⌜ Spells (units (ofBits binary64 b)) (d .m) (d .j) × (d .j ≤ 2097) ⌝ }
+    ensures { λ d. ⌜ Spells (leastUnits (ofBits binary64 b)) (d .m) (d .j) × (d .j ≤ 2097) ⌝ }
 {
     let exponent = b / FIRST_DIGIT;
     let kept = b % FIRST_DIGIT;
@@ -82,7 +82,7 @@ fn digits_of(b: u64) -> Digits
 // The bits of the root, from the bits of a finite double above zero.
 fn root_bits(b: u64) -> u64
     requires { ⌜ (0 < b) × (b < 0x7ff0_0000_0000_0000) ⌝ }
-    ensures { λ r. ⌜ r ≡ rootPattern (units (ofBits binary64 b)) ⌝ }
+    ensures { λ r. ⌜ r ≡ rootPattern (leastUnits (ofBits binary64 b)) ⌝ }
 {
     let d = digits_of(b);
     let m = d.m;

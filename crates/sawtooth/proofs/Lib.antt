@@ -1,1 +1,2 @@
 mod Going
+pub mod Bound

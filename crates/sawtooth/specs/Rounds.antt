@@ -5,11 +5,12 @@ use mathlib.Core.Bool.{true, false, cond, not, _||_}
 use lib.Signed.{ltZ}
 use lib.Ieee
 use lib.Ieee.{Float, binary64}
+use Rattle.refusals.specs.Names.{STRAYED, FULL}
 use Rattle.numbers.specs.Time.{earlierOf, instantOfSeconds}
 use Rattle.numbers.specs.declared.time.TimePoint.{TimePoint}
 use Rattle.numbers.specs.declared.time.Instant.{Instant}
 use Rattle.numbers.specs.declared.time.Instant.the-variants as I
-use Rattle.shapes.specs.Vector.{sum, scaled}
+use Rattle.shapes.specs.Vector.{vectorSum, scaled}
 use Rattle.courses.specs.declared.course.Course.{Course}
 use Rattle.courses.specs.declared.course.Run.{Run}
 use Rattle.waits.specs.Hints.{refusedBy, withHint, after}
@@ -27,9 +28,9 @@ strideOf agent chase s t =
     let catching = Ieee.div binary64 (Ieee.sub binary64 (Ieee.sub binary64 there s) (chase .gap)) (chase .closing) in
     let s1 = Ieee.add binary64 s (Ieee.mul binary64 (agent .speed) catching) in
     let t1 = Ieee.add binary64 t (Ieee.add binary64 catching (chase .rest)) in
-    let back = Ieee.div binary64 (Ieee.sub binary64 s1 (agent .length)) (agent .speed) in
-    cond (Ieee.le (agent .length) s1)
-    (record { s = agent .length; t = Ieee.sub binary64 t1 back; ended = true })
+    let back = Ieee.div binary64 (Ieee.sub binary64 s1 (agent .distance)) (agent .speed) in
+    cond (Ieee.le (agent .distance) s1)
+    (record { s = agent .distance; t = Ieee.sub binary64 t1 back; ended = true })
     (record { s = s1; t = t1; ended = false })
 
 -- Steps 7 to 9: the hint, and whether it is the last.
@@ -39,7 +40,7 @@ roundOf agent leg chase obstacle s t = by (strideOf agent chase s t)
     hintAt : Float → TimePoint → WaitHint
     hintAt m tp =
         record {
-          place = sum (agent .run .from) (scaled (agent .direction) m);
+          place = vectorSum (agent .run .from) (scaled (agent .direction) m);
           until = earlierOf tp (leg .end);
           obstacle = obstacle;
         }
@@ -58,13 +59,13 @@ roundOf agent leg chase obstacle s t = by (strideOf agent chase s t)
 abbrev pub afterRound : Round → WaitHints → (WaitHints → Float → Float → WaitHints) → WaitHints
 afterRound (Next h s t) hints go = after (withHint hints h) (λ found. go found s t)
 afterRound (Last h) hints go = withHint hints h
-afterRound Strayed hints go = refusedBy 7
+afterRound Strayed hints go = refusedBy STRAYED
 
 -- The rounds from s metres and t seconds on, with room for so many hints more: each stores a hint or is refused, and with no room
 -- left it is refused 10 (RULES 10.23).
 unfoldable pub roundsIn : ℕ → Course → Run → Chase → ℕ → WaitHints → Float → Float → WaitHints
 roundsIn zero agent leg chase obstacle hints s t =
-    afterRound (roundOf agent leg chase obstacle s t) hints (λ found s1 t1. refusedBy 10)
+    afterRound (roundOf agent leg chase obstacle s t) hints (λ found s1 t1. refusedBy FULL)
 roundsIn (suc room) agent leg chase obstacle hints s t =
     afterRound (roundOf agent leg chase obstacle s t) hints (roundsIn room agent leg chase obstacle)
 

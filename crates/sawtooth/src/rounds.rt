@@ -31,10 +31,10 @@ fn stride_from(agent: Course, chase: Chase, s: f64, t: f64) -> Stride
     let catching = ((there - s) - chase.gap) / chase.closing;
     let s1 = s + agent.speed * catching;
     let t1 = t + (catching + chase.rest);
-    if s1 >= agent.length {
+    if s1 >= agent.distance {
         return Stride {
-            s: agent.length,
-            t: t1 - (s1 - agent.length) / agent.speed,
+            s: agent.distance,
+            t: t1 - (s1 - agent.distance) / agent.speed,
             ended: true,
         };
     }
@@ -88,7 +88,7 @@ pub fn rounds(
     loop {
         let turn = round_from(agent, leg, chase, obstacle, s1, t1);
         match turn {
-            Round::Strayed => return WaitHints::refused_by(7),
+            Round::Strayed => return WaitHints::refused_by(refusals::STRAYED),
             Round::Last(hint) => return found.with_hint(hint),
             Round::Next(hint, s2, t2) => {
                 found = found.with_hint(hint);

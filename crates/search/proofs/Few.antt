@@ -19,7 +19,7 @@ use Rattle.obstacles.specs.Obstacle.{Obstacle, legsOf}
 use Rattle.obstacles.specs.Lent.{Lent, obstaclesOf}
 use Rattle.obstacles.specs.Examined.{legsInAll, isFew, agentExamined}
 use Rattle.obstacles.proofs.Shaped.{shaped-few, few-obstacles, few-legs, fine-shaped}
-use Rattle.arrivals.specs.Search.{Answered, legsIn, moving}
+use Rattle.arrivals.specs.Search.{Answered, legsIn, obstaclesIn}
 use Rattle.arrivals.proofs.Theorems.{at-most, fewer}
 use Rattle.nearing.specs.Watched.{viewAt, watchedLegs, watchedAll, arrivalsAt}
 use Rattle.search.specs.Asked.{askedArrivals}
@@ -39,8 +39,8 @@ legs-watched p (o ∷ os) =
     omega arith
 
 -- and every obstacle, of which those with a trajectory are some.
-moving-few : {A : Type 0} (os : List (List A)) → moving os ≤ length os
-unfolding moving
+moving-few : {A : Type 0} (os : List (List A)) → obstaclesIn os ≤ length os
+unfolding obstaclesIn
 moving-few [] = omega arith
 moving-few ([] ∷ os) = let rest = moving-few os in omega arith
 moving-few ((l ∷ ls) ∷ os) = let rest = moving-few os in omega arith
@@ -52,7 +52,7 @@ watched-count p (o ∷ os) = ap suc (watched-count p os)
 
 -- At most 256 legs and 32 obstacles.
 pub few-watched : (p : CircularProfile) (os : List Obstacle) → isFew os ≡ true →
-    legsIn (watchedAll p os) + moving (watchedAll p os) ≤ 288
+    legsIn (watchedAll p os) + obstaclesIn (watchedAll p os) ≤ 288
 few-watched p os e =
     let legs = legs-watched p os in
     let all = watched-count p os in
@@ -65,7 +65,7 @@ fine-is-few : (p : CircularProfile) (agent : Leg) (lent : Lent) →
 fine-is-few p agent lent e = shaped-few lent (fine-shaped p agent lent e)
 
 pub fine-few : (p : CircularProfile) (agent : Leg) (lent : Lent) → agentExamined p agent lent ≡ X.Fine →
-    legsIn (watchedAll p (obstaclesOf lent)) + moving (watchedAll p (obstaclesOf lent)) ≤ 288
+    legsIn (watchedAll p (obstaclesOf lent)) + obstaclesIn (watchedAll p (obstaclesOf lent)) ≤ 288
 fine-few p agent lent e = few-watched p (obstaclesOf lent) (fine-is-few p agent lent e)
 
 -- So a search that is answered makes at most 289 sweeps, and lists no more times than that (RULES 12.14, 12.19).

@@ -10,27 +10,27 @@ use lib.IntN.{ℤ}
 use lib.ListN.{length, take, set, length-append, length-set}
 use lib.Seq.{take-suc-set}
 use Rattle.numbers.specs.declared.time.TimePoint.{TimePoint}
-use Rattle.arrivals.specs.Search.{View, Answer, Answered, legsIn, moving, turn, arrivals}
+use Rattle.arrivals.specs.Search.{View, Searched, Answered, legsIn, obstaclesIn, turn, arrivals}
 use Rattle.arrivals.specs.declared.turn.Turn.the-variants as T
 use Rattle.arrivals.proofs.Going.{Going, going-start, going-room, going-goes, going-lists-goes}
 use Rattle.arrivals.proofs.Going.{going-ends, going-lists, going-refused}
-use Rattle.search.specs.Listing.{numbersOf, countsOf, Stored}
+use Rattle.search.specs.Listing.{nanosecondsOf, arrivalCounts, Stored}
 use Rattle.search.specs.declared.arrival_times.Arrivals.the-variants as C
 
-numbers-append : (l : List TimePoint) (c : TimePoint) → numbersOf (l ++ (c ∷ [])) ≡ numbersOf l ++ (c .0 ∷ [])
-unfolding numbersOf
+numbers-append : (l : List TimePoint) (c : TimePoint) → nanosecondsOf (l ++ (c ∷ [])) ≡ nanosecondsOf l ++ (c .0 ∷ [])
+unfolding nanosecondsOf
 numbers-append [] c = refl
 numbers-append (t ∷ l) c = ap (λ ns. t .0 ∷ ns) (numbers-append l c)
 
 -- A search that lists these times by so many sweeps.
-stored-times : {answer : Answer} {times : List TimePoint} {n : ℕ} {lent left : List ℤ} →
+stored-times : {answer : Searched} {times : List TimePoint} {n : ℕ} {lent left : List ℤ} →
     answer ≡ Answered times n → length left ≡ length lent →
-    (length times ≤ length lent → take (length times) left ≡ numbersOf times) →
+    (length times ≤ length lent → take (length times) left ≡ nanosecondsOf times) →
     Stored answer lent left (C.Listed (length times) n)
-unfolding countsOf
+unfolding arrivalCounts
 stored-times {answer} {times} {n} {lent} {left} e long front = record { counts = rw e; long = long; front = all }
   where
-    all : (l : List TimePoint) (m : ℕ) → answer ≡ Answered l m → length l ≤ length lent → take (length l) left ≡ numbersOf l
+    all : (l : List TimePoint) (m : ℕ) → answer ≡ Answered l m → length l ≤ length lent → take (length l) left ≡ nanosecondsOf l
     all l m f h = let same : times ≡ l = cc (sym e ∙ f) in rw (← same) (front (rw same h))
 
 module _ {Leg : Type 0} (v : View Leg) (os : List (List Leg)) (asked : TimePoint) (lent : List ℤ) where
@@ -40,11 +40,11 @@ module _ {Leg : Type 0} (v : View Leg) (os : List (List Leg)) (asked : TimePoint
     pub counted : length times ≡ count
     pub going : Going v os asked c times n
     pub long : length list ≡ length lent
-    pub front : count ≤ length lent → take count list ≡ numbersOf times
+    pub front : count ≤ length lent → take count list ≡ nanosecondsOf times
 
   -- It begins at the time asked for, with nothing listed (RULES 12.3).
   pub kept-start : Kept asked 0 0 lent
-  unfolding numbersOf
+  unfolding nanosecondsOf
   kept-start = record { times = []; counted = refl; going = going-start v os asked; long = refl; front = λ h. refl }
 
 module _ {Leg : Type 0} {v : View Leg} {os : List (List Leg)} {asked : TimePoint} {lent : List ℤ} {c : TimePoint} {count n : ℕ}
@@ -54,7 +54,7 @@ module _ {Leg : Type 0} {v : View Leg} {os : List (List Leg)} {asked : TimePoint
   kept-few = let few = k .going .fewer in omega (arith, k .counted)
 
   -- A sweep is left (RULES D3a).
-  pub kept-room : n < legsIn os + moving os + 1
+  pub kept-room : n < legsIn os + obstaclesIn os + 1
   kept-room = going-room (k .going)
 
   -- The next sweep begins at t (RULES 12.12).
@@ -66,7 +66,7 @@ module _ {Leg : Type 0} {v : View Leg} {os : List (List Leg)} {asked : TimePoint
   longer = length-append (k .times) (c ∷ []) ∙ ap (λ m. m + 1) (k .counted)
 
   -- The list with c behind the times in it.
-  one-more : count + 1 ≤ length lent → take (count + 1) (set list count (c .0)) ≡ numbersOf (k .times ++ (c ∷ []))
+  one-more : count + 1 ≤ length lent → take (count + 1) (set list count (c .0)) ≡ nanosecondsOf (k .times ++ (c ∷ []))
   one-more h =
       let room : count < length list = omega (arith, k .long) in
       rw (add-one count, take-suc-set list count (c .0) room, numbers-append (k .times) c, k .front (omega arith))
@@ -96,7 +96,7 @@ module _ {Leg : Type 0} {v : View Leg} {os : List (List Leg)} {asked : TimePoint
 
   -- or is refused (RULES 12.13).
   pub kept-refused : {m : ℕ} → turn v os c ≡ T.Refused m → Stored (arrivals v os asked) lent list (C.Refused m)
-  unfolding countsOf
+  unfolding arrivalCounts
   kept-refused e =
       let r = going-refused (k .going) e in
       record { counts = rw r; long = k .long; front = λ l m f h. absurd (true≢false (cc (sym r ∙ f))) }

@@ -8,8 +8,8 @@ use native.Mathlib.Omega.{arith}
 use borrow.Author.Tests.{lt-ltb, le-ltb}
 use lib.IntN.{ℤ, pos}
 use lib.ListN.{length, replicate}
-use Rattle.arrivals.specs.Search.{Answer, Answered, Refused, Unfinished}
-use Rattle.search.specs.Listing.{countsOf, wipedTimes, Stored, countsIn, timesIn, Told}
+use Rattle.arrivals.specs.Search.{Searched, Answered, Refused, Unfinished}
+use Rattle.search.specs.Listing.{arrivalCounts, wipedTimes, Stored, countsIn, timesIn, Told}
 use Rattle.search.specs.declared.arrival_times.Arrivals.{Arrivals}
 use Rattle.search.specs.declared.arrival_times.Arrivals.the-variants as C
 
@@ -22,16 +22,16 @@ pub told-refused : (list end : List ℤ) (n : ℕ) → end ≡ wipedTimes list 0
 unfolding countsIn timesIn
 told-refused list end n w = record { counts = refl; times = w ∙ wiped-whole list (length list) refl }
 
-module _ {answer : Answer} {lent left end : List ℤ} {r : Arrivals} (s : Stored answer lent left r) where
+module _ {answer : Searched} {lent left end : List ℤ} {r : Arrivals} (s : Stored answer lent left r) where
   -- Nor does one of the search.
   pub told-failed : (n : ℕ) → r ≡ C.Refused n → end ≡ wipedTimes left 0 → Told answer lent end (C.Refused n)
-  unfolding countsOf countsIn timesIn
+  unfolding arrivalCounts countsIn timesIn
   told-failed n e w = by answer (sym e ∙ s .counts)
     where
       all : end ≡ replicate (length lent) (pos 0)
       all = w ∙ wiped-whole left (length lent) (s .long)
 
-      by : (a : Answer) → C.Refused n ≡ countsOf a → Told a lent end (C.Refused n)
+      by : (a : Searched) → C.Refused n ≡ arrivalCounts a → Told a lent end (C.Refused n)
       by (Answered l m) f = absurd (true≢false (cc f))
       by (Refused m) f = record { counts = f; times = all }
       by Unfinished f = record { counts = f; times = all }
@@ -39,10 +39,10 @@ module _ {answer : Answer} {lent left end : List ℤ} {r : Arrivals} (s : Stored
   -- More times than places are refused 12 (RULES 4.12).
   pub told-short : (count sweeps : ℕ) → r ≡ C.Listed count sweeps → length left < count → end ≡ wipedTimes left 0 →
       Told answer lent end (C.Refused 12)
-  unfolding countsOf countsIn timesIn
+  unfolding arrivalCounts countsIn timesIn
   told-short count sweeps e h w = by answer (sym e ∙ s .counts)
     where
-      by : (a : Answer) → C.Listed count sweeps ≡ countsOf a → Told a lent end (C.Refused 12)
+      by : (a : Searched) → C.Listed count sweeps ≡ arrivalCounts a → Told a lent end (C.Refused 12)
       by (Answered l m) f =
           let same : count ≡ length l = cc f in
           let short : length lent < length l = omega (arith, s .long) in
@@ -56,10 +56,10 @@ module _ {answer : Answer} {lent left end : List ℤ} {r : Arrivals} (s : Stored
   -- Otherwise the times stand at the front, with zero after them (RULES 4.15).
   pub told-all : (count sweeps : ℕ) → r ≡ C.Listed count sweeps → count ≤ length left → end ≡ wipedTimes left count →
       Told answer lent end (C.Listed count sweeps)
-  unfolding countsOf countsIn timesIn wipedTimes
+  unfolding arrivalCounts countsIn timesIn wipedTimes
   told-all count sweeps e h w = by answer refl (sym e ∙ s .counts)
     where
-      by : (a : Answer) → answer ≡ a → C.Listed count sweeps ≡ countsOf a → Told a lent end (C.Listed count sweeps)
+      by : (a : Searched) → answer ≡ a → C.Listed count sweeps ≡ arrivalCounts a → Told a lent end (C.Listed count sweeps)
       by (Answered l m) is f =
           let same : count ≡ length l = cc f in
           let room : length l ≤ length lent = omega (arith, s .long) in

@@ -12,20 +12,20 @@ use Rattle.numbers.specs.declared.time.TimePoint.{TimePoint}
 use Rattle.shapes.specs.declared.profile.CircularProfile.{CircularProfile}
 use Rattle.shapes.specs.declared.waypoint.Waypoint.{Waypoint}
 use Rattle.obstacles.specs.Lent.{Lent}
-use Rattle.arrivals.specs.Search.{Answer, Answered, Refused, Unfinished}
+use Rattle.arrivals.specs.Search.{Searched, Answered, Refused, Unfinished}
 use Rattle.search.specs.Asked.{askedArrivals}
-use Rattle.search.specs.Listing.{numbersOf, countsIn, timesIn, Told}
+use Rattle.search.specs.Listing.{nanosecondsOf, countsIn, timesIn, Told}
 use Rattle.search.specs.Words.{arrivalsOutcome, listingOutcome}
 use Rattle.search.specs.declared.arrival_times.Arrivals.{Arrivals}
 use Rattle.search.proofs.Few.{asked-few}
 
-pub length-numbers : (l : List TimePoint) → length (numbersOf l) ≡ length l
-unfolding numbersOf
+pub length-numbers : (l : List TimePoint) → length (nanosecondsOf l) ≡ length l
+unfolding nanosecondsOf
 length-numbers [] = refl
 length-numbers (t ∷ l) = ap suc (length-numbers l)
 
 -- Where there is room for all times.
-pub told-words : {answer : Answer} {lent left : List ℤ} {r : Arrivals} → Told answer lent left r →
+pub told-words : {answer : Searched} {lent left : List ℤ} {r : Arrivals} → Told answer lent left r →
     ((l : List TimePoint) (n : ℕ) → answer ≡ Answered l n → length l ≤ length lent) →
     listingOutcome r left ≡ arrivalsOutcome answer
 unfolding countsIn timesIn listingOutcome arrivalsOutcome
@@ -34,11 +34,11 @@ told-words {answer} {lent} told fits = rw (told .counts, told .times) (by answer
     room : ℕ
     room = length lent
 
-    by : (a : Answer) → ((l : List TimePoint) (n : ℕ) → a ≡ Answered l n → length l ≤ room) →
+    by : (a : Searched) → ((l : List TimePoint) (n : ℕ) → a ≡ Answered l n → length l ≤ room) →
         listingOutcome (countsIn a room) (timesIn a room) ≡ arrivalsOutcome a
     by (Answered l n) fits =
         let rest : List ℤ = replicate (room - length l) (pos 0) in
-        rw (le-ltb room (length l) (fits l n refl), take-at (numbersOf l) rest (length l) (length-numbers l))
+        rw (le-ltb room (length l) (fits l n refl), take-at (nanosecondsOf l) rest (length l) (length-numbers l))
     by (Refused n) fits = refl
     by Unfinished fits = refl
 

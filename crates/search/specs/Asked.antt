@@ -7,12 +7,12 @@ use Rattle.shapes.specs.declared.profile.CircularProfile.{CircularProfile}
 use Rattle.shapes.specs.declared.waypoint.Waypoint.{Waypoint}
 use Rattle.obstacles.specs.Lent.{Lent, obstaclesOf}
 use Rattle.obstacles.specs.Examined.{agentExamined}
-use Rattle.arrivals.specs.Search.{Answer, Refused}
+use Rattle.arrivals.specs.Search.{Searched, Refused}
 use Rattle.nearing.specs.Watched.{arrivalsAt}
 
-unfoldable pub askedArrivals : CircularProfile → Waypoint → Lent → Answer
+unfoldable pub askedArrivals : CircularProfile → Waypoint → Lent → Searched
 askedArrivals p g lent = examined (agentExamined p (record { start = g; end = g }) lent)
   where
-    examined : Examined → Answer
+    examined : Examined → Searched
     examined X.Fine = arrivalsAt p g (obstaclesOf lent)
     examined (X.Refused n) = Refused n

@@ -6,8 +6,8 @@ use lib.IntN.{ℤ}
 use lib.ListN.{length, take}
 use Rattle.lists.specs.Outcome.{Outcome, Gives, Refuses}
 use Rattle.patterns.specs.Word.{wordOf}
-use Rattle.arrivals.specs.Search.{Answer, Answered, Refused, Unfinished}
-use Rattle.search.specs.Listing.{numbersOf}
+use Rattle.arrivals.specs.Search.{Searched, Answered, Refused, Unfinished}
+use Rattle.search.specs.Listing.{nanosecondsOf}
 use Rattle.search.specs.declared.arrival_times.Arrivals.{Arrivals}
 use Rattle.search.specs.declared.arrival_times.Arrivals.the-variants as C
 
@@ -17,8 +17,8 @@ wordsOf times = map wordOf times
 
 -- The number and the words of an answer: how many times there are, by how many sweeps, and they (RULES 12.18). `Unfinished` is
 -- never the answer (`finished` of arrivals), and 0 is no refusal's number.
-unfoldable pub arrivalsOutcome : Answer → Outcome
-arrivalsOutcome (Answered l n) = Gives (length l ∷ (n ∷ wordsOf (numbersOf l)))
+unfoldable pub arrivalsOutcome : Searched → Outcome
+arrivalsOutcome (Answered l n) = Gives (length l ∷ (n ∷ wordsOf (nanosecondsOf l)))
 arrivalsOutcome (Refused n) = Refuses n
 arrivalsOutcome Unfinished = Refuses 0
 

@@ -9,7 +9,7 @@ ghost use mathlib.Core.Path.{_≡_};
 ghost use Prim.Native.Nat.{_+_, _≤_};
 ghost use lib.ListN.{set};
 ghost use Rattle.obstacles.specs.Lent.{lentOf, obstaclesOf};
-ghost use Rattle.arrivals.specs.Search.{legsIn, moving};
+ghost use Rattle.arrivals.specs.Search.{legsIn, obstaclesIn};
 ghost use Rattle.nearing.specs.Watched.{watchedAll, arrivalsAt, arrivalsAmong};
 ghost use Rattle.search.specs.Listing.{Stored, Told, wipedTimes};
 
@@ -52,7 +52,7 @@ fn search_times(
     ys: &[f64],
     list: &mut [i64],
 ) -> Arrivals
-    requires { ⌜ legsIn (watchedAll p (obstaclesOf (lentOf (now starts) (now numbers) (now times) (now xs) (now ys)))) + moving (watchedAll p (obstaclesOf (lentOf (now starts) (now numbers) (now times) (now xs) (now ys)))) ≤ 288 ⌝ }
+    requires { ⌜ legsIn (watchedAll p (obstaclesOf (lentOf (now starts) (now numbers) (now times) (now xs) (now ys)))) + obstaclesIn (watchedAll p (obstaclesOf (lentOf (now starts) (now numbers) (now times) (now xs) (now ys)))) ≤ 288 ⌝ }
     ensures { λ r. ⌜ Stored (arrivalsAt p place (obstaclesOf (lentOf (now (starts .entry)) (now (numbers .entry)) (now (times .entry)) (now (xs .entry)) (now (ys .entry))))) (now (list .entry)) (now (list .exit)) r ⌝ }
 {
     let mut candidate = place.time;
@@ -93,7 +93,7 @@ pub(crate) fn compute_safe_arrival_times(
     ys: &[f64],
     list: &mut [i64],
 ) -> Arrivals
-    requires { ⌜ legsIn (watchedAll p (obstaclesOf (lentOf (now starts) (now numbers) (now times) (now xs) (now ys)))) + moving (watchedAll p (obstaclesOf (lentOf (now starts) (now numbers) (now times) (now xs) (now ys)))) ≤ 288 ⌝ }
+    requires { ⌜ legsIn (watchedAll p (obstaclesOf (lentOf (now starts) (now numbers) (now times) (now xs) (now ys)))) + obstaclesIn (watchedAll p (obstaclesOf (lentOf (now starts) (now numbers) (now times) (now xs) (now ys)))) ≤ 288 ⌝ }
     ensures { λ r. ⌜ Told (arrivalsAt p place (obstaclesOf (lentOf (now (starts .entry)) (now (numbers .entry)) (now (times .entry)) (now (xs .entry)) (now (ys .entry))))) (now (list .entry)) (now (list .exit)) r ⌝ }
 {
     let found = search_times(p, place, starts, numbers, times, xs, ys, list);
@@ -105,7 +105,7 @@ pub(crate) fn compute_safe_arrival_times(
         Arrivals::Listed(count, sweeps) => {
             if list.len() < count {
                 wipe_times(list, 0);
-                return Arrivals::Refused(12);
+                return Arrivals::Refused(refusals::NO_ROOM);
             }
             wipe_times(list, count);
             Arrivals::Listed(count, sweeps)
@@ -128,7 +128,7 @@ pub fn times_among(
 {
     if !examine::is_few(starts, times) {
         wipe_times(list, 0);
-        return Arrivals::Refused(2);
+        return Arrivals::Refused(refusals::SHAPE);
     }
     compute_safe_arrival_times(p, place, starts, numbers, times, xs, ys, list)
 }

@@ -35,7 +35,7 @@ pub fn turn_from(
             if t.is_before(candidate) {
                 return Turn::Goes(t);
             }
-            Turn::Refused(8)
+            Turn::Refused(refusals::STUCK)
         }
         Swept::Still => {
             let found = soonest::soonest_of(p, place, starts, numbers, times, xs, ys, candidate);

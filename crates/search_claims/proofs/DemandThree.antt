@@ -20,7 +20,7 @@ use Rattle.limits.proofs.Limits.{leg-start}
 use Rattle.obstacles.specs.Lent.{Lent, obstaclesOf}
 use Rattle.obstacles.specs.Examined.{isShaped, areAllowed, agentExamined}
 use Rattle.obstacles.proofs.Accepted.{accepted}
-use Rattle.arrivals.specs.Search.{Answer, Answered, Refused, Unfinished, arrivals}
+use Rattle.arrivals.specs.Search.{Searched, Answered, Refused, Unfinished, arrivals}
 use Rattle.arrivals.specs.Sweeps as S
 use Rattle.arrivals.specs.Sweeps.{Stuck}
 use Rattle.arrivals.proofs.Lists.{all-map}
@@ -54,11 +54,11 @@ module _ (p : CircularProfile) (g : Waypoint) (lent : Lent) where
       by true false backward b e = inl (cc e)
       by false allowed backward b e = inr (cc e)
 
-  abbrev found : Answer
+  abbrev found : Searched
   found = arrivals (viewAt g) (seen p lent) (g .time)
 
   -- What is answered is what the search finds, or 1 or 2 and there is no search (RULES 5.1).
-  by-input : (P : Answer → Type 0) → (Accepts p g lent → P found) → ((n : ℕ) → (n ≡ 1) ⊎ (n ≡ 2) → P (Refused n)) →
+  by-input : (P : Searched → Type 0) → (Accepts p g lent → P found) → ((n : ℕ) → (n ≡ 1) ⊎ (n ≡ 2) → P (Refused n)) →
       P (askedArrivals p g lent)
   unfolding askedArrivals arrivalsAt
   by-input P fine refused = by (agentExamined p stay lent) refl

@@ -14,12 +14,12 @@ use lib.Signed.{_≤ℤ_, clashℤ}
 use lib.Ieee.{Float}
 use Rattle.lists.specs.Listed.{every}
 use Rattle.floats.proofs.Tests.{passed}
-use Rattle.numbers.specs.Time.{inReach, instantAfter}
+use Rattle.numbers.specs.Time.{isExact, instantAfter}
 use Rattle.numbers.specs.declared.time.TimePoint.{TimePoint}
 use Rattle.numbers.specs.declared.time.Instant.the-variants as I
 use Rattle.numbers.proofs.Integers.{below→at-most, at-most-trans}
 use Rattle.numbers.proofs.Order.{chosen-has}
-use Rattle.numbers.proofs.Reach.{both}
+use Rattle.numbers.proofs.Exact.{both}
 use Rattle.shapes.specs.Distance.{criticalDistanceSquared}
 use Rattle.limits.specs.Domain.{isTime, isLimit, isWaypoint, isLeg, isProfile}
 use Rattle.shapes.specs.Leg.{isRising}
@@ -37,7 +37,7 @@ use Rattle.obstacles.specs.Obstacle.{Obstacle, legsFrom, legsOf}
 use Rattle.obstacles.proofs.Accepted.{isDriven, isFit}
 use Rattle.arrivals.specs.Sweeps.{All, Early, Fair, Joined, Ruled, Refuses}
 use Rattle.arrivals.proofs.Lists.{all-of}
-use Rattle.nearing.specs.Watched.{Watched, watched, standing, nearOf, viewAt, watchedLegs, watchedAll}
+use Rattle.nearing.specs.Watched.{Watched, watched, standingLeg, nearOf, viewAt, watchedLegs, watchedAll}
 
 -- ---- Any leg.
 
@@ -45,7 +45,7 @@ module _ (g : Waypoint) where
   -- It is refused by a number below 8 (RULES 4.1, 4.5 to 4.7).
   pub early : (w : Watched) → Early (viewAt g) w
   unfolding nearOf
-  early w n e = early-below (refuses-early (w .limit) (standing g (w .leg)) (w .leg) e)
+  early w n e = early-below (refuses-early (w .limit) (standingLeg g (w .leg)) (w .leg) e)
 
   pub all-early : (os : List (List Watched)) → All (All (Early (viewAt g))) os
   all-early os = all-of (All (Early (viewAt g))) (λ o. all-of (Early (viewAt g)) early o) os
@@ -57,7 +57,7 @@ module _ (g : Waypoint) where
       record {
         rises = rises;
         exit-after-start = λ enter exit e.
-            (rw e at (after-both-starts (w .limit) (standing g (w .leg)) (w .leg) .1)) .1;
+            (rw e at (after-both-starts (w .limit) (standingLeg g (w .leg)) (w .leg) .1)) .1;
       }
 
   joined : (limit : Float) (v w : Waypoint) (ws : List Waypoint) →
@@ -87,8 +87,8 @@ module _ (g : Waypoint) where
 -- ---- A leg of the table that ends after it starts, seen from a place of the table.
 
 reach : (z : ℤ) → pos 0 ≤ℤ z → z ≤ℤ pos (10 ^ 15) →
-    (inReach z && (inReach (pos 10_000) && inReach (z +ℤ pos 10_000))) ≡ true
-unfolding inReach
+    (isExact z && (isExact (pos 10_000) && isExact (z +ℤ pos 10_000))) ≡ true
+unfolding isExact
 reach (pos n) low high =
     let few = leb→le n (10 ^ 15) (high .le) in
     rw (le-leb n (2 ^ 53) (omega arith), le-leb (n + 10_000) (2 ^ 53) (omega arith))
@@ -103,7 +103,7 @@ not-strayed t low high e = true≢false (cc (rw (reach (t .0) low high) at e))
 module _ (g : Waypoint) (limit : Float) (leg : Leg)
     (placed : isWaypoint g ≡ true) (limited : isLimit limit ≡ true) (driven : isDriven leg ≡ true) where
   abbrev stand : Leg
-  stand = standing g leg
+  stand = standingLeg g leg
 
   own : isLeg leg ≡ true
   own = both (isLeg leg) (isRising leg) driven .0
@@ -118,12 +118,12 @@ module _ (g : Waypoint) (limit : Float) (leg : Leg)
   ended : isTime (leg .end .time) ≡ true
   ended = waypoint-time (leg .end) (leg-end leg own)
 
-  stands : isLeg (standing g leg) ≡ true
-  unfolding standing isLeg isWaypoint
+  stands : isLeg (standingLeg g leg) ≡ true
+  unfolding standingLeg isLeg isWaypoint
   stands = rw (began, ended, waypoint-x g placed, waypoint-y g placed)
 
   in-order : rangeStart stand leg .0 ≤ℤ rangeEnd stand leg .0
-  unfolding standing
+  unfolding standingLeg
   in-order =
       let start = chosen-has (λ t. t .0 ≤ℤ leg .end .time .0) (starts stand leg) rises rises in
       chosen-has (λ t. rangeStart stand leg .0 ≤ℤ t .0) (ends stand leg) start start
@@ -134,14 +134,14 @@ module _ (g : Waypoint) (limit : Float) (leg : Leg)
 
   -- It is refused by 5 only (RULES 8.13), and 10,000 ns after its exit are in reach.
   pub creeps : Refuses (viewAt g) (λ n. n ≡ 5) (watched limit leg)
-  creeps = record { own = only; reach = λ enter exit e strayed. absurd (in-reach enter exit e strayed) }
+  creeps = record { own = only; reach = λ enter exit e strayed. absurd (is-exact enter exit e strayed) }
     where
       only : (n : ℕ) → nearOf g limit leg ≡ P.Refused n → n ≡ 5
       only n e = ⊎-elim (λ five. five) (λ gap. clashℤ (gap .1) in-order) (rw e at ranged)
 
-      in-reach : (enter exit : TimePoint) → nearOf g limit leg ≡ P.Passes enter exit →
+      is-exact : (enter exit : TimePoint) → nearOf g limit leg ≡ P.Passes enter exit →
           instantAfter exit (record { 0 = pos 10_000 }) ≡ I.Strayed → ⊥
-      in-reach enter exit e =
+      is-exact enter exit e =
           let within = rw e at ranged in
           let low = at-most-trans _ _ _ (at-most-trans _ _ _ (time-not-below _ began) (starts stand leg .second)) (within .0) in
           let high = at-most-trans _ _ _ (within .2) (at-most-trans _ _ _ (ends stand leg .second) (time-at-most _ ended)) in

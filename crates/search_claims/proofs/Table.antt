@@ -16,7 +16,7 @@ use Rattle.proximity.specs.declared.detect.Proximity.{Proximity}
 use Rattle.proximity.specs.declared.detect.Proximity.the-variants as P
 use Rattle.obstacles.specs.Obstacle.{Obstacle, legsFrom, legsOf}
 use Rattle.arrivals.specs.Search as Search
-use Rattle.arrivals.specs.Search.{moving}
+use Rattle.arrivals.specs.Search.{obstaclesIn}
 use Rattle.arrivals.specs.Sweeps as S
 use Rattle.arrivals.specs.Sweeps.{exitOf, exitsOf, finishOf, allExits, allFinishes}
 use Rattle.nearing.specs.Watched.{Watched, watched, nearOf, viewAt, watchedLegs, watchedOf, watchedAll}
@@ -25,15 +25,15 @@ use Rattle.search_claims.specs.DemandThree.{oneIn, trajectoriesIn, lastO
 -- ---- Counts.
 
 one-moves : (limit : Float) (ws : List Waypoint) (rest : List (List Watched)) →
-    moving (watchedLegs limit (legsOf ws) ∷ rest) ≤ oneIn ws + moving rest
-unfolding moving watchedLegs legsOf
+    obstaclesIn (watchedLegs limit (legsOf ws) ∷ rest) ≤ oneIn ws + obstaclesIn rest
+unfolding obstaclesIn watchedLegs legsOf
 one-moves limit [] rest = omega arith
 one-moves limit (w ∷ []) rest = omega arith
 one-moves limit (w ∷ (v ∷ vs)) rest = omega arith
 
 -- An obstacle with a leg has a trajectory.
-pub moving-few : (p : CircularProfile) (os : List Obstacle) → moving (watchedAll p os) ≤ trajectoriesIn os
-unfolding watchedAll trajectoriesIn moving
+pub moving-few : (p : CircularProfile) (os : List Obstacle) → obstaclesIn (watchedAll p os) ≤ trajectoriesIn os
+unfolding watchedAll trajectoriesIn obstaclesIn
 moving-few p [] = omega arith
 moving-few p (o ∷ os) =
     let here = one-moves (criticalDistanceSquared p (o .profile)) (o .waypoints) (watchedAll p os) in

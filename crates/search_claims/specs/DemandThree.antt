@@ -6,6 +6,7 @@ use mathlib.Core.Path.{_≡_}
 use mathlib.Core.Logic.{_≢_, _↔_}
 use mathlib.Core.List.{List, [], _∷_, List·Memᴰ}
 use lib.Signed.{_<ℤ_}
+use Rattle.refusals.specs.Names.{NUMBER, SHAPE, CREEP, STUCK, LATE}
 use Rattle.numbers.specs.declared.time.TimePoint.{TimePoint}
 use Rattle.shapes.specs.Distance.{criticalDistanceSquared}
 use Rattle.limits.specs.declared.domain.Examined.the-variants as X
@@ -47,10 +48,10 @@ pub data Source (p : CircularProfile) (g : Waypoint) (os : List Obstacle) (t : T
 -- The refusals that there are: for the numbers and for the shape of the input, for creep, and for a search that is stuck
 -- (RULES 4.1, 4.2, 4.5, 4.8).
 pub data Refusal : ℕ → Type 0 where
-  by-numbers : Refusal 1
-  by-shape : Refusal 2
-  by-creep : Refusal 5
-  by-stuck : Refusal 8
+  by-numbers : Refusal NUMBER
+  by-shape : Refusal SHAPE
+  by-creep : Refusal CREEP
+  by-stuck : Refusal STUCK
 
 -- The legs of each obstacle, each with its limit, as the search sees them.
 abbrev pub seen : CircularProfile → Lent → List (List Watched)
@@ -76,8 +77,8 @@ module _ (p : CircularProfile) (g : Waypoint) (lent : Lent) where
     pub sequence : {l : List TimePoint} {n : ℕ} →
         (askedArrivals p g lent ≡ Answered l n) ↔ (Accepts × Gives (viewAt g) (seen p lent) (g .time) [] l n)
     -- The call is refused 8 exactly where it is stuck (RULES D3e),
-    pub stuck : (askedArrivals p g lent ≡ Refused 8) ↔ (Accepts × Stuck (viewAt g) (seen p lent) (g .time))
+    pub stuck : (askedArrivals p g lent ≡ Refused STUCK) ↔ (Accepts × Stuck (viewAt g) (seen p lent) (g .time))
     -- never 9 (RULES 12.9),
-    pub never-nine : askedArrivals p g lent ≢ Refused 9
+    pub never-nine : askedArrivals p g lent ≢ Refused LATE
     -- and else by 1, 2 or 5 only.
     pub refusals : {n : ℕ} → askedArrivals p g lent ≡ Refused n → Refusal n

@@ -8,9 +8,9 @@ use mathlib.Core.List.{List, [], _∷_}
 use native.Mathlib.Omega.{arith}
 use borrow.Author.Tests.{leb-true, lt-leb}
 use lib.ListN.{length}
-use Rattle.numbers.proofs.Reach.{both}
+use Rattle.numbers.proofs.Exact.{both}
 use Rattle.streams.specs.Bits.{numberAt}
-use Rattle.streams.specs.Request.{Obstacle}
+use Rattle.streams.specs.Request.{StreamObstacle}
 use Rattle.streams.specs.Format.{
   pointsAt,
   obstacleAt,
@@ -18,7 +18,7 @@ use Rattle.streams.specs.Format.{
   obstaclesAt,
   bitsInAll,
   requestBits,
-  legsInAll,
+  legsCounted,
   areCounted,
 }
 
@@ -56,23 +56,23 @@ bits-next s at end o p h e = rw (obstacles-next s at end o p h e, length-own s a
 
 -- ---- What obstacles within the table take.
 
-bits-at-most : (os : List Obstacle) → bitsInAll os ≤ 379 * length os + 178 * legsInAll os
-unfolding bitsInAll legsInAll
+bits-at-most : (os : List StreamObstacle) → bitsInAll os ≤ 379 * length os + 178 * legsCounted os
+unfolding bitsInAll legsCounted
 bits-at-most [] = omega arith
 bits-at-most (o ∷ os) = omega (arith, bits-at-most os)
 
-pub counts : (os : List Obstacle) → areCounted os ≡ true → (length os ≤ 32) × (legsInAll os ≤ 256)
+pub counts : (os : List StreamObstacle) → areCounted os ≡ true → (length os ≤ 32) × (legsCounted os ≤ 256)
 unfolding areCounted
 counts os h =
-    let few = both _ _ h in (leb-true (length os) 32 (few .0), leb-true (legsInAll os) 256 (both _ _ (few .1) .0))
+    let few = both _ _ h in (leb-true (length os) 32 (few .0), leb-true (legsCounted os) 256 (both _ _ (few .1) .0))
 
-pub few-obstacles : (os : List Obstacle) → areCounted os ≡ true → length os ≤ 32
+pub few-obstacles : (os : List StreamObstacle) → areCounted os ≡ true → length os ≤ 32
 few-obstacles os h = counts os h .0
 
-pub too-many : (os : List Obstacle) → 32 < length os → areCounted os ≡ false
+pub too-many : (os : List StreamObstacle) → 32 < length os → areCounted os ≡ false
 unfolding areCounted
 too-many os h = rw (lt-leb (length os) 32 h)
 
-pub few-bits : (os : List Obstacle) → areCounted os ≡ true → requestBits os ≤ 60_000
+pub few-bits : (os : List StreamObstacle) → areCounted os ≡ true → requestBits os ≤ 60_000
 unfolding requestBits
 few-bits os h = omega (arith, counts os h .0, counts os h .1, bits-at-most os)

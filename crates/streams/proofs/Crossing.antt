@@ -11,7 +11,7 @@ use Rattle.streams.specs.Format.{
   requestAt,
   bitsInAll,
   requestBits,
-  legsInAll,
+  legsCounted,
   areCounted,
   isFilled,
   isRequest,
@@ -27,10 +27,10 @@ use Rattle.streams.specs.Written.{
   packed,
   written,
 }
-use Rattle.streams.specs.Crossing.{crossing, crossingStream, Crosses}
+use Rattle.streams.specs.Crossing.{crossingRequest, crossingStream, Crosses}
 
 pub crosses : Crosses
-unfolding crossing crossingStream written packed requestFields obstacleFields pointBits bitsFor bitsOf numberIn listed
-    readOf isRequest requestAt obstaclesAt obstacleAt pointsAt pointAt numberAt bitAt areCounted legsInAll
+unfolding crossingRequest crossingStream written packed requestFields obstacleFields pointBits bitsFor bitsOf numberIn listed
+    readOf isRequest requestAt obstaclesAt obstacleAt pointsAt pointAt numberAt bitAt areCounted legsCounted
     isFilled requestBits bitsInAll every
 crosses = record { writing = refl; reading = refl }

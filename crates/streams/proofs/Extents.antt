@@ -9,55 +9,55 @@ use borrow.Author.Tests.{le-leb, lt-leb, eq-eqb, ne-eqb}
 use lib.Dec.{leb, eqb}
 use lib.ListN.{length}
 use Rattle.lists.specs.Listed.{every}
-use Rattle.streams.specs.Request.{Obstacle}
+use Rattle.streams.specs.Request.{StreamObstacle}
 use Rattle.streams.specs.Bits.{numberAt}
-use Rattle.streams.specs.Format.{obstacleAt, obstaclesAt, bitsInAll, legsInAll, areCounted, requestBits}
+use Rattle.streams.specs.Format.{obstacleAt, obstaclesAt, bitsInAll, legsCounted, areCounted, requestBits}
 use Rattle.streams.specs.Measured.{extentOf}
 use Rattle.streams.specs.declared.format.Extent.{Extent}
 use Rattle.streams.specs.declared.format.Extent.the-variants.{Bits, Uncounted}
 use Rattle.streams.proofs.Counts.{length-own, obstacles-next}
 
 -- What is found where bit `at` is reached and so many legs are counted already.
-unfoldable pub extentFrom : ℕ → ℕ → List Obstacle → Extent
+unfoldable pub extentFrom : ℕ → ℕ → List StreamObstacle → Extent
 extentFrom at legs os =
     cond
-    (leb (legs + legsInAll os) 256 && every (λ o. not (eqb (length (o .points)) 1)) os)
+    (leb (legs + legsCounted os) 256 && every (λ o. not (eqb (length (o .points)) 1)) os)
     (Bits (at + bitsInAll os))
     Uncounted
 
-pub extent-whole : (os : List Obstacle) → length os ≤ 32 → extentFrom 510 0 os ≡ extentOf os
+pub extent-whole : (os : List StreamObstacle) → length os ≤ 32 → extentFrom 510 0 os ≡ extentOf os
 unfolding extentFrom extentOf areCounted requestBits
 extent-whole os few =
-    let none : 0 + legsInAll os ≡ legsInAll os = omega arith in rw (none, le-leb (length os) 32 few)
+    let none : 0 + legsCounted os ≡ legsCounted os = omega arith in rw (none, le-leb (length os) 32 few)
 
 pub extent-done : (at legs : ℕ) → legs ≤ 256 → extentFrom at legs [] ≡ Bits at
-unfolding extentFrom legsInAll bitsInAll every
+unfolding extentFrom legsCounted bitsInAll every
 extent-done at legs h =
     let bits : at + 0 ≡ at = omega arith in rw (le-leb (legs + 0) 256 (omega arith), bits)
 
-pub extent-single : (at legs : ℕ) (o : Obstacle) (os : List Obstacle) →
+pub extent-single : (at legs : ℕ) (o : StreamObstacle) (os : List StreamObstacle) →
     length (o .points) ≡ 1 → extentFrom at legs (o ∷ os) ≡ Uncounted
 unfolding extentFrom every
 extent-single at legs o os h = rw (eq-eqb (length (o .points)) 1 h, and-false)
 
-pub extent-many : (at legs : ℕ) (o : Obstacle) (os : List Obstacle) →
+pub extent-many : (at legs : ℕ) (o : StreamObstacle) (os : List StreamObstacle) →
     256 < legs + (length (o .points) - 1) → extentFrom at legs (o ∷ os) ≡ Uncounted
-unfolding extentFrom legsInAll
-extent-many at legs o os h = rw (lt-leb (legs + ((length (o .points) - 1) + legsInAll os)) 256 (omega arith))
+unfolding extentFrom legsCounted
+extent-many at legs o os h = rw (lt-leb (legs + ((length (o .points) - 1) + legsCounted os)) 256 (omega arith))
 
-pub extent-next : (at legs : ℕ) (o : Obstacle) (os : List Obstacle) → (length (o .points) ≡ 1 → ⊥) →
+pub extent-next : (at legs : ℕ) (o : StreamObstacle) (os : List StreamObstacle) → (length (o .points) ≡ 1 → ⊥) →
     extentFrom at legs (o ∷ os) ≡ extentFrom (at + (201 + 178 * length (o .points))) (legs + (length (o .points) - 1)) os
-unfolding extentFrom every legsInAll bitsInAll
+unfolding extentFrom every legsCounted bitsInAll
 extent-next at legs o os h =
     let p = length (o .points) in
-    let counted : legs + ((p - 1) + legsInAll os) ≡ legs + (p - 1) + legsInAll os = omega arith in
+    let counted : legs + ((p - 1) + legsCounted os) ≡ legs + (p - 1) + legsCounted os = omega arith in
     let reached : at + ((201 + 178 * p) + bitsInAll os) ≡ at + (201 + 178 * p) + bitsInAll os = omega arith in
     rw (ne-eqb p 1 h, counted, reached)
 
 -- ---- The obstacles of a stream that are left after o of them: p is the count of waypoints of the first.
 
 module _ (s : List ℕ) (at legs end o p : ℕ) (left : o < end) (count : p ≡ numberAt s (at + 192) 9) where
-  abbrev rest : List Obstacle
+  abbrev rest : List StreamObstacle
   rest = obstaclesAt s (at + (201 + 178 * p)) (end - (o + 1))
 
   own : length (obstacleAt s at .points) ≡ p
@@ -88,7 +88,7 @@ abbrev given : Extent → ℕ
 given (Bits b) = b
 given Uncounted = 0
 
-pub extent-given : (os : List Obstacle) (b : ℕ) → extentOf os ≡ Bits b → (areCounted os ≡ true) × (b ≡ requestBits os)
+pub extent-given : (os : List StreamObstacle) (b : ℕ) → extentOf os ≡ Bits b → (areCounted os ≡ true) × (b ≡ requestBits os)
 unfolding extentOf
 extent-given os b = by (areCounted os) refl
   where
@@ -97,7 +97,7 @@ extent-given os b = by (areCounted os) refl
     by true h e = (h, sym (ap given e))
     by false h e = absurd (false≢true (ap isGiven e))
 
-pub extent-none : (os : List Obstacle) → extentOf os ≡ Uncounted → areCounted os ≡ false
+pub extent-none : (os : List StreamObstacle) → extentOf os ≡ Uncounted → areCounted os ≡ false
 unfolding extentOf
 extent-none os = by (areCounted os) refl
   where

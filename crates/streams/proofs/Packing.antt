@@ -12,7 +12,7 @@ use lib.ListN.{length, getD, List·getD-eq-default}
 use lib.Seq.{ext-getD}
 use Rattle.lists.specs.Listed.{listed, every}
 use Rattle.lists.proofs.Listed.{length-listed}
-use Rattle.numbers.proofs.Reach.{both}
+use Rattle.numbers.proofs.Exact.{both}
 use Rattle.streams.specs.Bits.{bitAt, numberAt}
 use Rattle.streams.specs.Written.{bitsOf, bitsFor, numberIn, packed}
 use Rattle.streams.proofs.Digits.{bit-lt}

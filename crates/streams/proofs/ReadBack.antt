@@ -9,9 +9,9 @@ use native.Mathlib.Omega.{arith}
 use lib.Dec.{ltb}
 use lib.ListN.{length}
 use Rattle.lists.specs.Listed.{every}
-use Rattle.numbers.proofs.Reach.{both}
+use Rattle.numbers.proofs.Exact.{both}
 use Rattle.streams.specs.Bits.{bitAt, numberAt}
-use Rattle.streams.specs.Request.{Point, Obstacle, Request, Of}
+use Rattle.streams.specs.Request.{Point, StreamObstacle, Request, Of}
 use Rattle.streams.specs.Format.{
   pointAt,
   pointsAt,
@@ -80,7 +80,7 @@ points-back s at (p ∷ ps) fits there =
 -- ---- Obstacles.
 
 -- Its count of waypoints is read, and with it the whole.
-obstacle-back : (s : List ℕ) (at : ℕ) (o : Obstacle) → obstacleFits o ≡ true → Stands (bitAt s) at (obstacleFields o) →
+obstacle-back : (s : List ℕ) (at : ℕ) (o : StreamObstacle) → obstacleFits o ≡ true → Stands (bitAt s) at (obstacleFields o) →
     (numberAt s (at + 192) 9 ≡ length (o .points)) × (obstacleAt s at ≡ o)
 unfolding obstacleAt obstacleFields obstacleFits
 obstacle-back s at o fits there =
@@ -108,7 +108,7 @@ obstacle-back s at o fits there =
       ),
     )
 
-obstacles-back : (s : List ℕ) (at : ℕ) (os : List Obstacle) → every obstacleFits os ≡ true →
+obstacles-back : (s : List ℕ) (at : ℕ) (os : List StreamObstacle) → every obstacleFits os ≡ true →
     Stands (bitAt s) at (bitsFor obstacleFields os) → obstaclesAt s at (length os) ≡ os
 unfolding obstaclesAt bitsFor every
 obstacles-back s at [] fits there = refl

@@ -5,7 +5,7 @@ use mathlib.Core.Path.{_≡_, refl, _∙_}
 use mathlib.Core.List.{List, [], _∷_}
 use native.Mathlib.Omega.{arith}
 use lib.ListN.{length, length-append}
-use Rattle.streams.specs.Request.{Point, Obstacle, Request}
+use Rattle.streams.specs.Request.{Point, StreamObstacle, Request}
 use Rattle.streams.specs.Format.{obstacleBits, bitsInAll, requestBits}
 use Rattle.streams.specs.Written.{bitsFor, pointBits, obstacleFields, requestFields}
 use Rattle.streams.proofs.Numbers.{length-bits}
@@ -23,11 +23,11 @@ length-points (p ∷ ps) =
     length-append (pointBits p) (bitsFor pointBits ps) ∙ omega (arith, length-point p, length-points ps)
 
 -- an obstacle 201 and its waypoints (RULES 14.8 to 14.12),
-pub length-obstacle : (o : Obstacle) → length (obstacleFields o) ≡ obstacleBits (length (o .points))
+pub length-obstacle : (o : StreamObstacle) → length (obstacleFields o) ≡ obstacleBits (length (o .points))
 unfolding obstacleFields
 length-obstacle o = simp (length-append, length-bits, length-points) (omega arith)
 
-pub length-obstacles : (os : List Obstacle) → length (bitsFor obstacleFields os) ≡ bitsInAll os
+pub length-obstacles : (os : List StreamObstacle) → length (bitsFor obstacleFields os) ≡ bitsInAll os
 unfolding bitsFor bitsInAll
 length-obstacles [] = refl
 length-obstacles (o ∷ os) =
@@ -44,7 +44,7 @@ point-bits : (p : Point) → AreBits (pointBits p)
 unfolding pointBits
 point-bits p = search (bits-append, bits-of)
 
-obstacle-bits : (o : Obstacle) → AreBits (obstacleFields o)
+obstacle-bits : (o : StreamObstacle) → AreBits (obstacleFields o)
 unfolding obstacleFields
 obstacle-bits o = search (bits-append, bits-of, bits-for pointBits point-bits) depth 8
 

@@ -9,9 +9,9 @@ use native.Mathlib.Omega.{arith}
 use lib.Dec.{eqb}
 use lib.ListN.{length}
 use Rattle.lists.specs.Listed.{every}
-use Rattle.numbers.proofs.Reach.{both}
+use Rattle.numbers.proofs.Exact.{both}
 use Rattle.streams.specs.Bits.{bitAt, numberAt}
-use Rattle.streams.specs.Request.{Point, Obstacle, Request, Of, Malformed}
+use Rattle.streams.specs.Request.{Point, StreamObstacle, Request, Of, Malformed}
 use Rattle.streams.specs.Format.{
   pointAt,
   pointsAt,
@@ -113,7 +113,7 @@ module _ (s : List ℕ) where
   unfolding obstaclesAt bitsFor
   obstacles-there at zero = λ j h. absurd (omega arith)
   obstacles-there at (suc n) =
-      let o : Obstacle = obstacleAt s at in
+      let o : StreamObstacle = obstacleAt s at in
       let to : ℕ = at + obstacleBits (numberAt s (at + 192) 9) in
       let size = length-obstacle o ∙ ap obstacleBits (points-counted at) in
       joined (bitAt s) at to (obstacleFields o) (bitsFor obstacleFields (obstaclesAt s to n)) (ap (λ k. at + k) size)

@@ -9,8 +9,8 @@ use Rattle.streams.specs.Written.{written}
 
 -- The agent goes from (0,0) at 0 to (10,0) at 10 s, an obstacle from (5,-5) at 0 to (5,5) at 10 s. Footprints 0.5, follow
 -- buffers 0, conflict distance squared 1.
-unfoldable pub crossing : Request
-crossing =
+unfoldable pub crossingRequest : Request
+crossingRequest =
     record {
       budget = 4_096;
       footprint = 0x3fe0_0000_0000_0000;
@@ -45,6 +45,6 @@ crossingStream =
 
 pub record Crosses : Type 0 where
   -- It is what is written for the request,
-  pub writing : written crossing ≡ crossingStream
+  pub writing : written crossingRequest ≡ crossingStream
   -- and it is read as the request.
-  pub reading : readOf crossingStream ≡ Of crossing
+  pub reading : readOf crossingStream ≡ Of crossingRequest

@@ -7,7 +7,7 @@ use lib.Dec.{leb, eqb}
 use lib.ListN.{length}
 use Rattle.lists.specs.Listed.{every}
 use Rattle.streams.specs.Bits.{numberAt}
-use Rattle.streams.specs.Request.{Point, Obstacle, Request, Reading, Of, Malformed}
+use Rattle.streams.specs.Request.{Point, StreamObstacle, Request, Reading, Of, Malformed}
 
 -- ---- Where the fields stand.
 
@@ -21,7 +21,7 @@ pointsAt s at zero = []
 pointsAt s at (suc n) = pointAt s at ∷ pointsAt s (at + 178) n
 
 -- Three numbers of 64 bits and a count of 9, 201 bits in all; then as many waypoints (RULES 14.8 to 14.12).
-unfoldable pub obstacleAt : List ℕ → ℕ → Obstacle
+unfoldable pub obstacleAt : List ℕ → ℕ → StreamObstacle
 obstacleAt s at =
     record {
       footprint = numberAt s at 64;
@@ -35,7 +35,7 @@ abbrev pub obstacleBits : ℕ → ℕ
 obstacleBits points = 201 + 178 * points
 
 -- n obstacles, one behind another.
-unfoldable pub obstaclesAt : List ℕ → ℕ → ℕ → List Obstacle
+unfoldable pub obstaclesAt : List ℕ → ℕ → ℕ → List StreamObstacle
 obstaclesAt s at zero = []
 obstaclesAt s at (suc n) = obstacleAt s at ∷ obstaclesAt s (at + obstacleBits (numberAt s (at + 192) 9)) n
 
@@ -54,22 +54,22 @@ requestAt s =
 -- ---- Its counts.
 
 -- The bits of obstacles.
-unfoldable pub bitsInAll : List Obstacle → ℕ
+unfoldable pub bitsInAll : List StreamObstacle → ℕ
 bitsInAll [] = 0
 bitsInAll (o ∷ os) = obstacleBits (length (o .points)) + bitsInAll os
 
-unfoldable pub requestBits : List Obstacle → ℕ
+unfoldable pub requestBits : List StreamObstacle → ℕ
 requestBits os = 510 + bitsInAll os
 
 -- The legs of obstacles: one fewer than the waypoints of each that has any.
-unfoldable pub legsInAll : List Obstacle → ℕ
-legsInAll [] = 0
-legsInAll (o ∷ os) = (length (o .points) - 1) + legsInAll os
+unfoldable pub legsCounted : List StreamObstacle → ℕ
+legsCounted [] = 0
+legsCounted (o ∷ os) = (length (o .points) - 1) + legsCounted os
 
 -- At most 32 obstacles and 256 legs, and none with a single waypoint (RULES 3.5, 3.6).
-unfoldable pub areCounted : List Obstacle → Bool
+unfoldable pub areCounted : List StreamObstacle → Bool
 areCounted os =
-    leb (length os) 32 && (leb (legsInAll os) 256 && every (λ o. not (eqb (length (o .points)) 1)) os)
+    leb (length os) 32 && (leb (legsCounted os) 256 && every (λ o. not (eqb (length (o .points)) 1)) os)
 
 -- ---- Which streams are requests.
 

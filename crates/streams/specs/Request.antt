@@ -11,7 +11,7 @@ pub record Point : Type 0 where
   pub y : ℕ
 
 -- An obstacle: its profile, the conflict distance squared that it carries, its waypoints (RULES 14.8 to 14.12).
-pub record Obstacle : Type 0 where
+pub record StreamObstacle : Type 0 where
   pub footprint : ℕ
   pub follow : ℕ
   pub limit : ℕ
@@ -24,7 +24,7 @@ pub record Request : Type 0 where
   pub follow : ℕ
   pub from : Point
   pub to : Point
-  pub obstacles : List Obstacle
+  pub obstacles : List StreamObstacle
 
 -- A stream is a request, or it is malformed.
 pub data Reading : Type 0 where

@@ -6,7 +6,7 @@ use mathlib.Core.List.{List, [], _∷_, _++_}
 use lib.Dec.{ltb}
 use lib.ListN.{length, getD}
 use Rattle.lists.specs.Listed.{listed, every}
-use Rattle.streams.specs.Request.{Point, Obstacle, Request}
+use Rattle.streams.specs.Request.{Point, StreamObstacle, Request}
 
 -- The n bits of a number, the most significant first.
 unfoldable pub bitsOf : ℕ → ℕ → List ℕ
@@ -23,7 +23,7 @@ unfoldable pub pointBits : Point → List ℕ
 pointBits p = bitsOf 50 (p .time) ++ (bitsOf 64 (p .x) ++ bitsOf 64 (p .y))
 
 -- An obstacle (RULES 14.8 to 14.12).
-unfoldable pub obstacleFields : Obstacle → List ℕ
+unfoldable pub obstacleFields : StreamObstacle → List ℕ
 obstacleFields o =
     bitsOf 64 (o .footprint) ++
     (bitsOf 64 (o .follow) ++
@@ -58,7 +58,7 @@ written r = packed (requestFields r)
 unfoldable pub pointFits : Point → Bool
 pointFits p = ltb (p .time) (2 ^ 50) && (ltb (p .x) (2 ^ 64) && ltb (p .y) (2 ^ 64))
 
-unfoldable pub obstacleFits : Obstacle → Bool
+unfoldable pub obstacleFits : StreamObstacle → Bool
 obstacleFits o =
     ltb (o .footprint) (2 ^ 64) &&
     (ltb (o .follow) (2 ^ 64) &&

@@ -7,8 +7,8 @@ use mir.Syntax.{w64}
 use mir.Val.{SFits}
 use Rattle.patterns.proofs.ReadBack.{read, read-back}
 use Rattle.shapes.specs.declared.waypoint.Leg.{Leg}
-use Rattle.taking.specs.Plain.{legOf}
+use Rattle.taking.specs.Plain.{plainLeg}
 
 pub leg-read : {leg : Leg} (t0 t1 : ℤ) (x0 y0 x1 y1 : Float) → SFits w64 t0 → SFits w64 t1 →
-    leg ≡ legOf (read t0) x0 y0 (read t1) x1 y1 → leg ≡ legOf t0 x0 y0 t1 x1 y1
-leg-read t0 t1 x0 y0 x1 y1 h0 h1 e = e ∙ (λ i. legOf (read-back t0 h0 i) x0 y0 (read-back t1 h1 i) x1 y1)
+    leg ≡ plainLeg (read t0) x0 y0 (read t1) x1 y1 → leg ≡ plainLeg t0 x0 y0 t1 x1 y1
+leg-read t0 t1 x0 y0 x1 y1 h0 h1 e = e ∙ (λ i. plainLeg (read-back t0 h0 i) x0 y0 (read-back t1 h1 i) x1 y1)

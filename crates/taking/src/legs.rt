@@ -3,11 +3,11 @@ use numbers::time::TimePoint;
 use shapes::waypoint::Leg;
 use shapes::waypoint::Waypoint;
 ghost use mathlib.Core.Path.{_≡_};
-ghost use Rattle.taking.specs.Plain.{legOf};
+ghost use Rattle.taking.specs.Plain.{plainLeg};
 
 // The leg from (x0, y0) at t0 to (x1, y1) at t1.
 pub fn leg_of(t0: i64, x0: f64, y0: f64, t1: i64, x1: f64, y1: f64) -> Leg
-    ensures { λ r. ⌜ r ≡ legOf t0 x0 y0 t1 x1 y1 ⌝ }
+    ensures { λ r. ⌜ r ≡ plainLeg t0 x0 y0 t1 x1 y1 ⌝ }
 {
     Leg {
         start: Waypoint {

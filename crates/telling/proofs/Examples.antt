@@ -1,4 +1,4 @@
--- Two answers as they are printed: a plan of one path, and a refusal.
+-- An answer as it is printed: a plan of one path.
 -- Assumes nothing.
 use Prim.Native.Nat.{ℕ}
 use mathlib.Core.Path.{_≡_, refl}
@@ -7,8 +7,8 @@ use Rattle.lists.specs.Listed.{listed}
 use Rattle.patterns.specs.Word.{signedOf}
 use Rattle.texts.specs.Letters.{bytesOf}
 use Rattle.texts.specs.Numerals.{glyph, decimalBy, decimalOf, signedText, hexBy, hexOf, countField, timeField, bitsField}
-use Rattle.wording.specs.Lines.{line, okLine, pathLine, moveLine, waitLine, refusedLine}
-use Rattle.telling.specs.Answer.{rowAt, rowsOf, actionLine, actionLines, pathLines, planLines, answerText}
+use Rattle.wording.specs.Lines.{line, okLine, pathLine, moveLine, waitLine}
+use Rattle.telling.specs.Answer.{rowAt, rowsOf, actionLine, actionLines, pathLines, planLines}
 
 -- The row of counts, and that of the one path, which has two actions.
 abbrev pub paths : List ℕ
@@ -19,13 +19,8 @@ abbrev pub actions : List ℕ
 actions = 0 ∷ (4 ∷ (18446744073709551615 ∷ (0 ∷ (1 ∷ (17 ∷ (10 ∷ (4607182418800017408 ∷ [])))))))
 
 -- (RULES 15.1 to 15.4)
-pub a-plan : answerText 0 paths actions ≡
+pub a-plan : planLines paths actions ≡
     bytesOf "ok 2 1 0 1\npath 17 3 0\nwait 4 -1\nmove 17 000000000000000a 3ff0000000000000\n"
-unfolding answerText planLines pathLines actionLines actionLine rowsOf rowAt listed okLine pathLine moveLine waitLine line
+unfolding planLines pathLines actionLines actionLine rowsOf rowAt listed okLine pathLine moveLine waitLine line
     countField timeField bitsField signedText signedOf decimalOf decimalBy hexOf hexBy glyph bytesOf
 a-plan = refl
-
--- (RULES 15.5)
-pub a-refusal : answerText 12 [] [] ≡ bytesOf "refused 12\n"
-unfolding answerText refusedLine line countField decimalOf decimalBy glyph bytesOf
-a-refusal = refl

@@ -1,4 +1,4 @@
--- How long an answer of words can be: there is a line for each row and one besides, and each is at most 87 bytes long.
+-- How long the text of rows of words can be: there is a line for each row and one besides, and each is at most 87 bytes long.
 -- Assumes nothing.
 use Prim.Native.Nat.{ℕ, zero, suc, _+_, _*_, _/_, _^_, _≤_, _<_}
 use mathlib.Core.Path.{_≡_, refl}
@@ -10,8 +10,8 @@ use lib.ListN.{length, getD, take, drop, length-append, length-take, length-drop
 use Rattle.lists.specs.Listed.{listed}
 use Rattle.lists.proofs.Listed.{length-listed}
 use Rattle.wording.specs.Lines.{okLine, pathLine}
-use Rattle.wording.proofs.Sizes.{ok-short, path-short, move-short, wait-short, refused-short}
-use Rattle.telling.specs.Answer.{Row, rowAt, rowsOf, actionLine, actionLines, pathLines, planLines, answerText}
+use Rattle.wording.proofs.Sizes.{ok-short, path-short, move-short, wait-short}
+use Rattle.telling.specs.Answer.{Row, rowAt, rowsOf, actionLine, actionLines, pathLines, planLines}
 
 -- ---- Rows of words.
 
@@ -54,7 +54,7 @@ length-rows : (room : List ℕ) → length (rowsOf room) ≡ length room / 4
 unfolding rowsOf
 length-rows room = length-listed (rowAt room) (length room / 4) 0
 
--- ---- The whole answer.
+-- ---- The whole text.
 
 action-short : (row : Row) → Words row → length (actionLine row) ≤ 60
 unfolding actionLine
@@ -89,8 +89,9 @@ paths-short (p ∷ ps) rows (w, ws) vs =
       length-drop n rows,
     )
 
+-- A room of 87 bytes for each row and 87 besides is enough.
 pub plan-short : (paths actions : List ℕ) → ((i : ℕ) → getD paths i 0 < 2 ^ 64) → ((i : ℕ) → getD actions i 0 < 2 ^ 64) →
-    length (planLines paths actions) ≤ 87 + 68 * (length paths / 4) + 60 * (length actions / 4)
+    length (planLines paths actions) ≤ 87 * (1 + length paths / 4 + length actions / 4)
 unfolding planLines
 plan-short paths actions wp wa =
     let row : Row = rowAt paths 0 in
@@ -109,15 +110,3 @@ plan-short paths actions wp wa =
       length-rows paths,
       length-rows actions,
     )
-
--- A room of 87 bytes for each row and 87 besides is enough for any answer of words.
-pub answer-short : (number : ℕ) (paths actions : List ℕ) → number < 2 ^ 64 →
-    ((i : ℕ) → getD paths i 0 < 2 ^ 64) → ((i : ℕ) → getD actions i 0 < 2 ^ 64) →
-    length (answerText number paths actions) ≤ 87 * (1 + length paths / 4 + length actions / 4)
-unfolding answerText
-answer-short number paths actions wn wp wa = by (eqb number 0) refl
-  where
-    by : (t : Bool) → eqb number 0 ≡ t →
-        length (answerText number paths actions) ≤ 87 * (1 + length paths / 4 + length actions / 4)
-    by true e = rw e (omega (arith, plan-short paths actions wp wa))
-    by false e = rw e (omega (arith, refused-short number wn))

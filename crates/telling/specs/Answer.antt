@@ -7,7 +7,7 @@ use mathlib.Core.List.{List, [], _∷_, _++_}
 use lib.Dec.{eqb}
 use lib.ListN.{length, getD, take, drop}
 use Rattle.lists.specs.Listed.{listed}
-use Rattle.wording.specs.Lines.{okLine, pathLine, moveLine, waitLine, refusedLine}
+use Rattle.wording.specs.Lines.{okLine, pathLine, moveLine, waitLine}
 
 -- A row of four words.
 pub record Row : Type 0 where
@@ -54,7 +54,3 @@ planLines paths actions = from (rowAt paths 0)
     from row =
         okLine (row .first) (row .second) (row .third) (row .fourth) ++
         pathLines (take (row .fourth) (drop 1 (rowsOf paths))) (rowsOf actions)
-
--- A refusal is its one line; its number is not 0.
-unfoldable pub answerText : ℕ → List ℕ → List ℕ → List ℕ
-answerText number paths actions = cond (eqb number 0) (planLines paths actions) (refusedLine number)

@@ -7,8 +7,9 @@ ghost use mathlib.Core.Path.{_≡_};
 ghost use Prim.Native.Nat.{_+_, _*_, _≤_, _<_, _/_, min};
 ghost use lib.ListN.{length, getD};
 ghost use Rattle.lists.specs.Listed.{listedTo};
-ghost use Rattle.texts.specs.Room.{Put, Tells};
-ghost use Rattle.telling.specs.Answer.{rowAt, rowsOf, actionLine, actionLines, pathLines, planLines, answerText};
+ghost use Rattle.lists.specs.Outcome.{Gives};
+ghost use Rattle.texts.specs.Room.{PutText, Tells};
+ghost use Rattle.telling.specs.Answer.{rowAt, rowsOf, actionLine, actionLines, pathLines, planLines};
 
 // A word of a room; what the room does not reach is zero.
 fn word_at(room: &[u64], i: usize) -> u64
@@ -37,7 +38,7 @@ fn rows_end(room: &[u64], from: usize, n: u64) -> usize
 // Puts the line of the action in row i.
 fn put_action(out: &mut [u8], at: usize, actions: &[u64], i: usize) -> usize
     requires { ⌜ i < length (now actions) / 4 ⌝ }
-    ensures { λ r. ⌜ Put (actionLine (rowAt (now (actions .entry)) i)) (now (out .entry)) at (now (out .exit)) r ⌝ }
+    ensures { λ r. ⌜ PutText (actionLine (rowAt (now (actions .entry)) i)) (now (out .entry)) at (now (out .exit)) r ⌝ }
 {
     if actions[4 * i] == 1 {
         return line::put_move(
@@ -54,7 +55,7 @@ fn put_action(out: &mut [u8], at: usize, actions: &[u64], i: usize) -> usize
 // Puts the lines of the actions in the rows from `from` up to `to`.
 fn put_actions(out: &mut [u8], at: usize, actions: &[u64], from: usize, to: usize) -> usize
     requires { ⌜ (to ≤ length (now actions) / 4) × (at ≤ length (now out) + 1) ⌝ }
-    ensures { λ r. ⌜ Put (actionLines (listedTo (rowAt (now (actions .entry))) to from)) (now (out .entry)) at (now (out .exit)) r ⌝ }
+    ensures { λ r. ⌜ PutText (actionLines (listedTo (rowAt (now (actions .entry))) to from)) (now (out .entry)) at (now (out .exit)) r ⌝ }
 {
     let mut next = at;
     let mut i = from;
@@ -68,7 +69,7 @@ fn put_actions(out: &mut [u8], at: usize, actions: &[u64], from: usize, to: usiz
 // Puts the lines of the paths in the rows from 1 up to `end`, each with those of its actions.
 fn put_paths(out: &mut [u8], at: usize, paths: &[u64], end: usize, actions: &[u64]) -> usize
     requires { ⌜ (end ≤ length (now paths) / 4) × (at ≤ length (now out) + 1) ⌝ }
-    ensures { λ r. ⌜ Put (pathLines (listedTo (rowAt (now (paths .entry))) end 1) (rowsOf (now (actions .entry)))) (now (out .entry)) at (now (out .exit)) r ⌝ }
+    ensures { λ r. ⌜ PutText (pathLines (listedTo (rowAt (now (paths .entry))) end 1) (rowsOf (now (actions .entry)))) (now (out .entry)) at (now (out .exit)) r ⌝ }
 {
     let mut next = at;
     let mut from = 0;
@@ -85,7 +86,7 @@ fn put_paths(out: &mut [u8], at: usize, paths: &[u64], end: usize, actions: &[u6
 
 // Puts the lines of a plan.
 fn put_plan(out: &mut [u8], paths: &[u64], actions: &[u64]) -> usize
-    ensures { λ r. ⌜ Put (planLines (now (paths .entry)) (now (actions .entry))) (now (out .entry)) 0 (now (out .exit)) r ⌝ }
+    ensures { λ r. ⌜ PutText (planLines (now (paths .entry)) (now (actions .entry))) (now (out .entry)) 0 (now (out .exit)) r ⌝ }
 {
     let many = word_at(paths, 3);
     let next = line::put_ok(
@@ -99,15 +100,11 @@ fn put_plan(out: &mut [u8], paths: &[u64], actions: &[u64]) -> usize
     put_paths(out, next, paths, end, actions)
 }
 
-// The text of a plan's rows where `number` is 0, else of the refusal that has this number. Each line takes at most 87 bytes.
-pub fn put_answer(number: u64, paths: &[u64], actions: &[u64], out: &mut [u8]) -> Told
-    ensures { λ r. ⌜ Tells (answerText number (now (paths .entry)) (now (actions .entry))) (now (out .entry)) (now (out .exit)) r ⌝ }
-    ensures { λ _. ⌜ length (answerText number (now (paths .entry)) (now (actions .entry))) ≤ 87 * (1 + length (now (paths .entry)) / 4 + length (now (actions .entry)) / 4) ⌝ }
+// The text of a plan's rows. Each line takes at most 87 bytes.
+pub fn put_answer(paths: &[u64], actions: &[u64], out: &mut [u8]) -> Told
+    ensures { λ r. ⌜ Tells (Gives (planLines (now (paths .entry)) (now (actions .entry)))) (now (out .entry)) (now (out .exit)) r ⌝ }
+    ensures { λ _. ⌜ length (planLines (now (paths .entry)) (now (actions .entry))) ≤ 87 * (1 + length (now (paths .entry)) / 4 + length (now (actions .entry)) / 4) ⌝ }
 {
-    if number != 0 {
-        let end = line::put_refused(out, number);
-        return room::settle(out, end);
-    }
     let end = put_plan(out, paths, actions);
     room::settle(out, end)
 }

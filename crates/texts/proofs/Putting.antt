@@ -9,28 +9,28 @@ use native.Mathlib.Omega.{arith}
 use lib.ListN.{length, set, length-set, length-append}
 use lib.Seq.{set-out}
 use Rattle.lists.proofs.Fours.{either}
-use Rattle.texts.specs.Room.{written, reached, Put}
+use Rattle.texts.specs.Room.{withBytes, reached, PutText}
 
 -- ---- The room.
 
-pub length-written : (room : List ℕ) (at : ℕ) (xs : List ℕ) → length (written room at xs) ≡ length room
-unfolding written
-length-written room at [] = refl
-length-written room at (x ∷ xs) = length-written (set room at x) (at + 1) xs ∙ length-set room at x
+pub length-bytes : (room : List ℕ) (at : ℕ) (xs : List ℕ) → length (withBytes room at xs) ≡ length room
+unfolding withBytes
+length-bytes room at [] = refl
+length-bytes room at (x ∷ xs) = length-bytes (set room at x) (at + 1) xs ∙ length-set room at x
 
-written-append : (room : List ℕ) (at : ℕ) (xs ys : List ℕ) →
-    written room at (xs ++ ys) ≡ written (written room at xs) (at + length xs) ys
-unfolding written
-written-append room at [] ys = rw (add-zero at)
-written-append room at (x ∷ xs) ys =
+bytes-append : (room : List ℕ) (at : ℕ) (xs ys : List ℕ) →
+    withBytes room at (xs ++ ys) ≡ withBytes (withBytes room at xs) (at + length xs) ys
+unfolding withBytes
+bytes-append room at [] ys = rw (add-zero at)
+bytes-append room at (x ∷ xs) ys =
     let on : at + 1 + length xs ≡ at + suc (length xs) = omega arith in
-    written-append (set room at x) (at + 1) xs ys ∙ ap (λ (k : ℕ). written (written (set room at x) (at + 1) xs) k ys) on
+    bytes-append (set room at x) (at + 1) xs ys ∙ ap (λ (k : ℕ). withBytes (withBytes (set room at x) (at + 1) xs) k ys) on
 
 -- Past its end nothing changes.
-written-past : (room : List ℕ) (at : ℕ) (xs : List ℕ) → length room ≤ at → written room at xs ≡ room
-unfolding written
-written-past room at [] h = refl
-written-past room at (x ∷ xs) h = rw (set-out room at x h) (written-past room (at + 1) xs (omega arith))
+bytes-past : (room : List ℕ) (at : ℕ) (xs : List ℕ) → length room ≤ at → withBytes room at xs ≡ room
+unfolding withBytes
+bytes-past room at [] h = refl
+bytes-past room at (x ∷ xs) h = rw (set-out room at x h) (bytes-past room (at + 1) xs (omega arith))
 
 -- ---- The place.
 
@@ -62,13 +62,13 @@ reached-append room at n m = either (at + n) room Same fits short
         (reached-short room (room + 1) m (omega arith) ∙ sym (reached-short room at (n + m) (omega arith)))
 
 -- What is put there may as well be put at the sum.
-written-reached : (room : List ℕ) (at n : ℕ) (xs : List ℕ) →
-    written room (reached (length room) at n) xs ≡ written room (at + n) xs
-written-reached room at n xs =
-    either (at + n) (length room) (written room (reached (length room) at n) xs ≡ written room (at + n) xs)
-    (λ h. ap (λ (k : ℕ). written room k xs) (reached-fits (length room) at n h))
+bytes-reached : (room : List ℕ) (at n : ℕ) (xs : List ℕ) →
+    withBytes room (reached (length room) at n) xs ≡ withBytes room (at + n) xs
+bytes-reached room at n xs =
+    either (at + n) (length room) (withBytes room (reached (length room) at n) xs ≡ withBytes room (at + n) xs)
+    (λ h. ap (λ (k : ℕ). withBytes room k xs) (reached-fits (length room) at n h))
     (λ h. rw (reached-short (length room) at n h)
-    (written-past room (length room + 1) xs (omega arith) ∙ sym (written-past room (at + n) xs (omega arith))))
+    (bytes-past room (length room + 1) xs (omega arith) ∙ sym (bytes-past room (at + n) xs (omega arith))))
 
 pub reached-none : (room at : ℕ) → at ≤ room + 1 → reached room at 0 ≡ at
 reached-none room at h =
@@ -83,31 +83,31 @@ reached-within room at n =
 
 -- ---- Pieces.
 
-module _ {xs room left : List ℕ} {at r : ℕ} (p : Put xs room at left r) where
+module _ {xs room left : List ℕ} {at r : ℕ} (p : PutText xs room at left r) where
   pub put-kept : length left ≡ length room
-  put-kept = ap length (p .room) ∙ length-written room at xs
+  put-kept = ap length (p .room) ∙ length-bytes room at xs
 
   pub put-within : r ≤ length left + 1
   put-within = rw (p .place, put-kept) (reached-within (length room) at (length xs))
 
-  rest-room : (ys : List ℕ) → written left r ys ≡ written room at (xs ++ ys)
+  rest-room : (ys : List ℕ) → withBytes left r ys ≡ withBytes room at (xs ++ ys)
   rest-room ys =
-      ap (λ (k : ℕ). written left k ys) (p .place) ∙
-      ap (λ (n : ℕ). written left (reached n at (length xs)) ys) (sym put-kept) ∙
-      written-reached left at (length xs) ys ∙
-      ap (λ (l : List ℕ). written l (at + length xs) ys) (p .room) ∙ sym (written-append room at xs ys)
+      ap (λ (k : ℕ). withBytes left k ys) (p .place) ∙
+      ap (λ (n : ℕ). withBytes left (reached n at (length xs)) ys) (sym put-kept) ∙
+      bytes-reached left at (length xs) ys ∙
+      ap (λ (l : List ℕ). withBytes l (at + length xs) ys) (p .room) ∙ sym (bytes-append room at xs ys)
 
   rest-place : (ys : List ℕ) → reached (length left) r (length ys) ≡ reached (length room) at (length (xs ++ ys))
   rest-place ys =
       rw (put-kept, p .place, reached-append, length-append)
 
 pub put-both : {xs ys room left left' : List ℕ} {at r r' : ℕ} →
-    Put xs room at left r → Put ys left r left' r' → Put (xs ++ ys) room at left' r'
+    PutText xs room at left r → PutText ys left r left' r' → PutText (xs ++ ys) room at left' r'
 put-both {xs} {ys} p q = record { room = q .room ∙ rest-room p ys; place = q .place ∙ rest-place p ys }
 
 -- What is left of a whole text, put from `at` on, comes to the whole text, put into the lent room from `from` on.
 pub record Goes (rest room : List ℕ) (at : ℕ) (whole lent : List ℕ) (from : ℕ) : Type 0 where
-  pub same-room : written room at rest ≡ written lent from whole
+  pub same-room : withBytes room at rest ≡ withBytes lent from whole
   pub same-place : reached (length room) at (length rest) ≡ reached (length lent) from (length whole)
   pub kept : length room ≡ length lent
 
@@ -115,7 +115,7 @@ pub goes-all : (whole lent : List ℕ) (from : ℕ) → Goes whole lent from who
 goes-all whole lent from = record { same-room = refl; same-place = refl; kept = refl }
 
 pub goes-on : {xs ys room left whole lent : List ℕ} {at r from : ℕ} →
-    Goes (xs ++ ys) room at whole lent from → Put xs room at left r → Goes ys left r whole lent from
+    Goes (xs ++ ys) room at whole lent from → PutText xs room at left r → Goes ys left r whole lent from
 goes-on {xs} {ys} g p =
     record {
       same-room = rest-room p ys ∙ g .same-room;
@@ -124,7 +124,7 @@ goes-on {xs} {ys} g p =
     }
 
 pub goes-done : {room whole lent : List ℕ} {at from : ℕ} →
-    Goes [] room at whole lent from → at ≤ length room + 1 → Put whole lent from room at
-unfolding written
+    Goes [] room at whole lent from → at ≤ length room + 1 → PutText whole lent from room at
+unfolding withBytes
 goes-done {room} {whole} {lent} {at} g h =
     record { room = g .same-room; place = sym (reached-none (length room) at h) ∙ g .same-place }

@@ -13,7 +13,7 @@ use lib.IntN.{ℤ, pos, negsuc}
 use lib.ListN.{length, getD, drop, length-append, List·getD-append}
 use Rattle.lists.specs.Listed.{every}
 use Rattle.texts.specs.Numerals.{glyph, decimalOf, signedText, hexBy, hexOf}
-use Rattle.texts.specs.Reading.{isDigit, countOf, readFrom, readOf}
+use Rattle.texts.specs.Reading.{isDigit, countOf, readFrom, numeralRead}
 use Rattle.texts.proofs.Digits.{glyph-digit, glyph-letter, decimal-one, decimal-more}
 
 -- A claim on the digits of a number: that of one digit, and from its tenth's to a number's.
@@ -58,21 +58,21 @@ read-append base n (x ∷ xs) ys = read-append base (n * base + countOf x) xs ys
 
 -- ---- Decimal digits.
 
-pub decimal-reads : (n : ℕ) → readOf 10 (decimalOf n) ≡ n
-unfolding readOf readFrom
-decimal-reads = by-tenths (λ n. readOf 10 (decimalOf n) ≡ n) one more
+pub decimal-reads : (n : ℕ) → numeralRead 10 (decimalOf n) ≡ n
+unfolding numeralRead readFrom
+decimal-reads = by-tenths (λ n. numeralRead 10 (decimalOf n) ≡ n) one more
   where
-    one : (n : ℕ) → n < 10 → readOf 10 (decimalOf n) ≡ n
+    one : (n : ℕ) → n < 10 → numeralRead 10 (decimalOf n) ≡ n
     one n h = rw (decimal-one n h, glyph-back n) (omega arith)
 
-    more : (n : ℕ) → 10 ≤ n → readOf 10 (decimalOf (n / 10)) ≡ n / 10 → readOf 10 (decimalOf n) ≡ n
+    more : (n : ℕ) → 10 ≤ n → numeralRead 10 (decimalOf (n / 10)) ≡ n / 10 → numeralRead 10 (decimalOf n) ≡ n
     more n h tenth =
         rw (decimal-more n h, read-append 10 0 (decimalOf (n / 10)) (glyph (n % 10) ∷ []), tenth, glyph-back (n % 10))
         (omega arith)
 
 -- No two numbers have the same digits.
 pub decimal-same : (n m : ℕ) → decimalOf n ≡ decimalOf m → n ≡ m
-decimal-same n m e = sym (decimal-reads n) ∙ ap (readOf 10) e ∙ decimal-reads m
+decimal-same n m e = sym (decimal-reads n) ∙ ap (numeralRead 10) e ∙ decimal-reads m
 
 every-append : (test : ℕ → Bool) (xs ys : List ℕ) → every test xs ≡ true → every test ys ≡ true → every test (xs ++ ys) ≡ true
 unfolding every
@@ -155,9 +155,9 @@ hex-from (suc k) n w =
     ap (λ (m : ℕ). n * (16 * c) + m) (sym (mod-mul w {m = 16} {c = c} (omega arith) (one-le-pow k 16 (omega arith)))) ∙
     sym (ap (λ (m : ℕ). n * m + w % m) power)
 
-pub hex-reads : (w : ℕ) → w < 2 ^ 64 → readOf 16 (hexOf w) ≡ w
-unfolding readOf hexOf
+pub hex-reads : (w : ℕ) → w < 2 ^ 64 → numeralRead 16 (hexOf w) ≡ w
+unfolding numeralRead hexOf
 hex-reads w h = hex-from 16 0 w ∙ omega arith
 
 pub hex-same : (w v : ℕ) → w < 2 ^ 64 → v < 2 ^ 64 → hexOf w ≡ hexOf v → w ≡ v
-hex-same w v h k e = sym (hex-reads w h) ∙ ap (readOf 16) e ∙ hex-reads v k
+hex-same w v h k e = sym (hex-reads w h) ∙ ap (numeralRead 16) e ∙ hex-reads v k

@@ -19,5 +19,5 @@ readFrom base n [] = n
 readFrom base n (b ∷ bs) = readFrom base (n * base + countOf b) bs
 
 -- The number that they make alone.
-unfoldable pub readOf : ℕ → List ℕ → ℕ
-readOf base bs = readFrom base 0 bs
+unfoldable pub numeralRead : ℕ → List ℕ → ℕ
+numeralRead base bs = readFrom base 0 bs

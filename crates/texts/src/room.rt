@@ -1,8 +1,8 @@
 // A text in a lent room: put piece by piece as far as the room reaches, then handed over (docs/RULES.md, 4.12, 4.14 and 4.15).
 ghost use mathlib.Core.Path.{_≡_};
 ghost use mathlib.Core.List.{_∷_, []};
-ghost use Rattle.lists.specs.Outcome.{wiped};
-ghost use Rattle.texts.specs.Room.{Put, Settled};
+ghost use Rattle.lists.specs.Outcome.{Refuses, wiped};
+ghost use Rattle.texts.specs.Room.{PutText, SettledText, Tells};
 
 // How long a text is, or a refusal and its number.
 pub enum Told {
@@ -12,7 +12,7 @@ pub enum Told {
 
 // Puts a byte at its place and answers the place behind it, or the one past the room's end where it has no such place.
 pub fn put_byte(out: &mut [u8], at: usize, b: u8) -> usize
-    ensures { λ r. ⌜ Put (b ∷ []) (now (out .entry)) at (now (out .exit)) r ⌝ }
+    ensures { λ r. ⌜ PutText (b ∷ []) (now (out .entry)) at (now (out .exit)) r ⌝ }
 {
     if at < out.len() {
         out[at] = b;
@@ -34,12 +34,20 @@ fn wipe_from(out: &mut [u8], from: usize)
 
 // Hands over a text that was put before and ends at `end`: zero behind it, or 12 where the room is too small.
 pub fn settle(out: &mut [u8], end: usize) -> Told
-    ensures { λ r. ⌜ Settled end (now (out .entry)) (now (out .exit)) r ⌝ }
+    ensures { λ r. ⌜ SettledText end (now (out .entry)) (now (out .exit)) r ⌝ }
 {
     if out.len() < end {
         wipe_from(out, 0);
-        return Told::Refused(12);
+        return Told::Refused(refusals::NO_ROOM);
     }
     wipe_from(out, end);
     Told::Text(end)
+}
+
+// Hands over a refusal: its number alone, and no byte of the room kept.
+pub fn refuse(out: &mut [u8], number: u64) -> Told
+    ensures { λ r. ⌜ Tells (Refuses number) (now (out .entry)) (now (out .exit)) r ⌝ }
+{
+    wipe_from(out, 0);
+    Told::Refused(number)
 }

@@ -6,8 +6,8 @@ use mathlib.Core.Bool.{Bool, true, false, cond}
 use Prim.Native.Nat.{ℕ}
 use lib.Signed.{ltZ}
 use lib.Ieee.{Float, le}
-use Rattle.floats.specs.Size.{nought}
-use Rattle.numbers.specs.Time.{inReach, spanOfSeconds, instantAfter, instantAfterSeconds}
+use Rattle.floats.specs.Constants.{nought}
+use Rattle.numbers.specs.Time.{isExact, spanOfSeconds, instantAfter, instantAfterSeconds, withInstant}
 use Rattle.numbers.specs.declared.time.TimePoint.{TimePoint}
 use Rattle.numbers.specs.declared.time.Span.{Span}
 use Rattle.numbers.specs.declared.time.Span.the-variants as P
@@ -15,10 +15,10 @@ use Rattle.numbers.specs.declared.time.Instant.{Instant}
 use Rattle.numbers.specs.declared.time.Instant.the-variants as I
 use Rattle.numbers.proofs.Answers.{instant-made}
 use Rattle.limits.specs.Domain.{isPlace, isLimit}
-use Rattle.shapes.specs.Vector.{difference}
+use Rattle.shapes.specs.Vector.{vectorDifference}
 use Rattle.shapes.specs.declared.vector.Vector.{Vector}
 use Rattle.shapes.specs.declared.waypoint.Leg.{Leg}
-use Rattle.limits.proofs.Limits.{time-in-reach}
+use Rattle.limits.proofs.Limits.{time-exact}
 use Rattle.limits.proofs.Vectors.{Spans}
 use Rattle.courses.specs.Norm.{directionOf}
 use Rattle.lines.specs.NearLine.{nearLine}
@@ -33,16 +33,16 @@ use Rattle.lines.proofs.OnDomain.{Steady, Charted, Directed, Answered, steepest
 use Rattle.lines.proofs.OnDomain.{direction-given, run-stationary-answered, run-near-line-answered}
 use Rattle.waits.specs.declared.hint.Wait.{Wait}
 use Rattle.waits.specs.declared.hint.Wait.the-variants.{At, Nothing, Refused}
-use Rattle.waiting.specs.Parts.{staying, reaching, agentAfter}
+use Rattle.waiting.specs.Parts.{staying, agentAfter}
 use Rattle.waiting.specs.Crossing.{beforeCrossing, directed, besideLine, crossingWait}
-use Rattle.waiting.specs.Standing.{earlierOf, nearEnds, standingWait}
+use Rattle.waiting.specs.Standing.{firstBegin, nearEnds, standingWait}
 use Rattle.waiting.specs.Oncoming.{oncomingWait}
 use Rattle.waiting.specs.declared.standing.Begin.{Begin}
 use Rattle.waiting.specs.declared.standing.Begin.the-variants as B
 
 -- A hint until an instant in reach, nothing, or a refusal by a number that may be (RULES 4.7).
 abbrev pub Waited : (ℕ → Type 0) → Wait → Type 0
-Waited may (At p t) = inReach (t .0) ≡ true
+Waited may (At p t) = isExact (t .0) ≡ true
 Waited may Nothing = Unit
 Waited may (Refused n) = may n
 
@@ -69,7 +69,7 @@ module _ (may : ℕ → Type 0) where
   staying-waited S.Refused go a h = absurd a
 
 reaching-waited : (i : Instant) (go : TimePoint → Wait) →
-    ((t : TimePoint) → i ≡ I.At t → Waited NoLineOrStrayed (go t)) → Waited NoLineOrStrayed (reaching i go)
+    ((t : TimePoint) → i ≡ I.At t → Waited NoLineOrStrayed (go t)) → Waited NoLineOrStrayed (withInstant (Refused 7) i go)
 reaching-waited (I.At t) go h = h t refl
 reaching-waited I.Strayed go h = inr refl
 
@@ -80,11 +80,11 @@ directed-waited D.Missing go a h = inl refl
 directed-waited D.Refused go a h = absurd a
 
 -- An instant that seconds put after another was held against the reach (RULES 10.12).
-after-in-reach : (t : TimePoint) (s : Float) (u : TimePoint) → instantAfterSeconds t s ≡ I.At u → inReach (u .0) ≡ true
+after-exact : (t : TimePoint) (s : Float) (u : TimePoint) → instantAfterSeconds t s ≡ I.At u → isExact (u .0) ≡ true
 unfolding instantAfterSeconds
-after-in-reach t s u e = by (spanOfSeconds s) refl
+after-exact t s u e = by (spanOfSeconds s) refl
   where
-    by : (x : Span) → spanOfSeconds s ≡ x → inReach (u .0) ≡ true
+    by : (x : Span) → spanOfSeconds s ≡ x → isExact (u .0) ≡ true
     by (P.Of d) q = let after : instantAfter t d ≡ I.At u = rw q at e in instant-made t d u after .result
     by P.Strayed q = cc (rw q at e)
 
@@ -96,7 +96,7 @@ before-waited agent leg wait end =
     reaching-waited (instantAfterSeconds (agent .run .start) wait) _ (λ arrival _.
     either-waited NoLineOrStrayed (ltZ (until .0) (arrival .0)) Nothing (At (agentAfter agent wait) until)
     tt
-    (after-in-reach (leg .start) end until e))))
+    (after-exact (leg .start) end until e))))
     tt
 
 -- ---- The parts of a leg.
@@ -107,7 +107,7 @@ module _ {own : Leg} {agent : Course} {leg : Run} (limit : Float)
   beside-waited : (end : Float) → Waited NoLineOrStrayed (besideLine agent leg limit end)
   unfolding besideLine
   beside-waited end =
-      directed-waited (directionOf (difference (leg .to) (leg .from))) _ (direction-given leg g) (λ u hu.
+      directed-waited (directionOf (vectorDifference (leg .to) (leg .from))) _ (direction-given leg g) (λ u hu.
       let near = nearLine (leg .from) (leg .to) u (agent .run .from) (agent .run .to) (agent .run .seconds) limit in
       staying-waited NoLineOrStrayed near _ (run-near-line-answered limit g hu (h .steady) hl) (λ wait _.
       before-waited agent leg wait end))
@@ -120,14 +120,14 @@ module _ {own : Leg} {agent : Course} {leg : Run} (limit : Float)
       staying-waited NoLineOrStrayed near _ (run-near-line-answered limit (h .steady) (h .direction-within) g hl) (λ _ end.
       beside-waited end)
 
-  until-end : inReach (leg .end .0) ≡ true
-  until-end = time-in-reach (leg .end) (g .end-time)
+  until-end : isExact (leg .end .0) ≡ true
+  until-end = time-exact (leg .end) (g .end-time)
 
   ends-waited : (first second : Float) → Waited NeverRefused (nearEnds agent leg first second)
   unfolding nearEnds
-  ends-waited first second = by (earlierOf first second) refl
+  ends-waited first second = by (firstBegin first second) refl
     where
-      by : (b : Begin) → earlierOf first second ≡ b → Waited NeverRefused (nearEnds agent leg first second)
+      by : (b : Begin) → firstBegin first second ≡ b → Waited NeverRefused (nearEnds agent leg first second)
       by (B.At wait) e = rw e until-end
       by B.Missing e = rw e tt
 

@@ -3,7 +3,7 @@
 use mathlib.Core.Bool.{cond}
 use lib.Ieee
 use lib.Ieee.{Float}
-use Rattle.floats.specs.Size.{nought}
+use Rattle.floats.specs.Constants.{nought}
 use Rattle.lines.specs.Stationary.{stationaryProximity}
 use Rattle.courses.specs.declared.course.Course.{Course}
 use Rattle.courses.specs.declared.course.Run.{Run}

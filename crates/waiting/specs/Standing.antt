@@ -3,7 +3,7 @@
 use mathlib.Core.Bool.{cond}
 use lib.Ieee
 use lib.Ieee.{Float}
-use Rattle.floats.specs.Size.{nought}
+use Rattle.floats.specs.Constants.{nought}
 use Rattle.lines.specs.Stationary.{stationaryProximity}
 use Rattle.courses.specs.declared.course.Course.{Course}
 use Rattle.courses.specs.declared.course.Run.{Run}
@@ -14,15 +14,15 @@ use Rattle.waiting.specs.declared.standing.Begin.{Begin}
 use Rattle.waiting.specs.declared.standing.Begin.the-variants.{At, Missing}
 
 -- Of two begins those from 0 on count: the smaller, and of two equal ones the first (RULES 10.25, 10.26).
-unfoldable pub earlierOf : Float → Float → Begin
-earlierOf first second =
+unfoldable pub firstBegin : Float → Float → Begin
+firstBegin first second =
     cond (Ieee.le nought first)
     (cond (Ieee.le nought second) (At (cond (Ieee.lt second first) second first)) (At first))
     (cond (Ieee.le nought second) (At second) Missing)
 
 -- The agent waits where it comes near the earlier, until the leg ends (RULES 10.27).
 unfoldable pub nearEnds : Course → Run → Float → Float → Wait
-nearEnds agent leg first second = by (earlierOf first second)
+nearEnds agent leg first second = by (firstBegin first second)
   where
     by : Begin → Wait
     by (At wait) = T.At (agentAfter agent wait) (leg .end)

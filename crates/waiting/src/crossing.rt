@@ -21,11 +21,11 @@ fn before_crossing(agent: Course, leg: Run, wait: f64, end: f64) -> Wait
     let run = agent.run;
     let freed = leg.start.plus_secs_f64(end);
     let Instant::At(until) = freed else {
-        return Wait::Refused(7);
+        return Wait::Refused(refusals::STRAYED);
     };
     let reached = run.start.plus_secs_f64(wait);
     let Instant::At(arrival) = reached else {
-        return Wait::Refused(7);
+        return Wait::Refused(refusals::STRAYED);
     };
     if until.is_before(arrival) {
         return Wait::Nothing;
@@ -39,8 +39,8 @@ fn beside_line(agent: Course, leg: Run, limit: f64, end: f64) -> Wait
 {
     let way = norm::try_normalize(leg.to.minus(leg.from));
     match way {
-        Direction::Refused => Wait::Refused(1),
-        Direction::Missing => Wait::Refused(4),
+        Direction::Refused => Wait::Refused(refusals::NUMBER),
+        Direction::Missing => Wait::Refused(refusals::NO_LINE),
         Direction::Along(u) => {
             let run = agent.run;
             let near = near_line::compute_quadratic_wait_hints(
@@ -53,7 +53,7 @@ fn beside_line(agent: Course, leg: Run, limit: f64, end: f64) -> Wait
                 limit,
             );
             match near {
-                Stay::Refused => Wait::Refused(1),
+                Stay::Refused => Wait::Refused(refusals::NUMBER),
                 Stay::Nothing => Wait::Nothing,
                 Stay::Between(begin, _) => before_crossing(agent, leg, begin, end),
             }
@@ -75,7 +75,7 @@ pub fn crossing_wait(agent: Course, leg: Run, limit: f64) -> Wait
         limit,
     );
     match obstruction {
-        Stay::Refused => Wait::Refused(1),
+        Stay::Refused => Wait::Refused(refusals::NUMBER),
         Stay::Nothing => Wait::Nothing,
         Stay::Between(_, end) => beside_line(agent, leg, limit, end),
     }

@@ -13,7 +13,7 @@ pub fn oncoming_wait(agent: Course, leg: Run, limit: f64) -> Wait
     let run = agent.run;
     let near = stationary::compute_stationary_proximity(leg.to, run.from, run.velocity, limit);
     match near {
-        Stay::Refused => Wait::Refused(1),
+        Stay::Refused => Wait::Refused(refusals::NUMBER),
         Stay::Nothing => Wait::Nothing,
         Stay::Between(wait, _) => {
             if !(wait >= 0.0) {

@@ -5,7 +5,7 @@ use lines::stationary;
 use lines::stationary::Stay;
 use waits::hint::Wait;
 ghost use mathlib.Core.Path.{_≡_};
-ghost use Rattle.waiting.specs.Standing.{earlierOf, nearEnds, standingWait};
+ghost use Rattle.waiting.specs.Standing.{firstBegin, nearEnds, standingWait};
 
 // When the agent comes near, of the seconds for the two ends of a leg: those from 0 on count.
 pub enum Begin {
@@ -15,7 +15,7 @@ pub enum Begin {
 
 // The earlier of the two that count, and of two equal ones the first.
 fn earlier(first: f64, second: f64) -> Begin
-    ensures { λ r. ⌜ r ≡ earlierOf first second ⌝ }
+    ensures { λ r. ⌜ r ≡ firstBegin first second ⌝ }
 {
     if !(first >= 0.0) {
         if !(second >= 0.0) {
@@ -56,7 +56,7 @@ pub fn standing_wait(agent: Course, leg: Run, limit: f64) -> Wait
         limit,
     );
     match at_start {
-        Stay::Refused => Wait::Refused(1),
+        Stay::Refused => Wait::Refused(refusals::NUMBER),
         Stay::Nothing => Wait::Nothing,
         Stay::Between(first, _) => {
             let at_end = stationary::compute_stationary_proximity(
@@ -66,7 +66,7 @@ pub fn standing_wait(agent: Course, leg: Run, limit: f64) -> Wait
                 limit,
             );
             match at_end {
-                Stay::Refused => Wait::Refused(1),
+                Stay::Refused => Wait::Refused(refusals::NUMBER),
                 Stay::Nothing => Wait::Nothing,
                 Stay::Between(second, _) => near_ends(agent, leg, first, second),
             }

@@ -12,9 +12,9 @@ use lib.Dec.{leb}
 use lib.ListN.{length, take, set, length-set, length-replicate}
 use lib.Seq.{take-suc-set}
 use Rattle.lists.specs.Listed.{every}
-use Rattle.numbers.proofs.Reach.{both}
+use Rattle.numbers.proofs.Exact.{both}
 use Rattle.waits.specs.Hint.{isPlaced}
-use Rattle.waits.specs.Hints.{blank, refusedBy, noHints, held, isGoing, withHint, withWait, after}
+use Rattle.waits.specs.Hints.{blankHint, refusedBy, noHints, held, isGoing, withHint, withWait, after}
 use Rattle.waits.specs.declared.hint.WaitHint.{WaitHint}
 use Rattle.waits.specs.declared.hint.Wait.{Wait}
 use Rattle.waits.specs.declared.hint.Wait.the-variants.{At, Nothing, Refused}
@@ -44,7 +44,7 @@ pub record Sound (hints : WaitHints) : Type 0 where
 
 pub refused-sound : (n : ℕ) → MayBe n → Sound (refusedBy n)
 unfolding refusedBy held every
-refused-sound n may = record { long = length-replicate 64 blank; few = omega arith; placed = refl; told = may }
+refused-sound n may = record { long = length-replicate 64 blankHint; few = omega arith; placed = refl; told = may }
 
 pub none-sound : Sound noHints
 unfolding noHints

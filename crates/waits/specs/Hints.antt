@@ -6,7 +6,8 @@ use mathlib.Core.List.{List}
 use lib.Dec.{eqb, leb}
 use lib.IntN.{pos}
 use lib.ListN.{take, set, replicate}
-use Rattle.floats.specs.Size.{nought}
+use Rattle.refusals.specs.Names.{STRAYED, FULL}
+use Rattle.floats.specs.Constants.{nought}
 use Rattle.waits.specs.Hint.{isPlaced}
 use Rattle.waits.specs.declared.hint.WaitHint.{WaitHint}
 use Rattle.waits.specs.declared.hint.Wait.{Wait}
@@ -14,12 +15,12 @@ use Rattle.waits.specs.declared.hint.Wait.the-variants.{At, Nothing, Ref
 use Rattle.waits.specs.declared.wait_hints.WaitHints.{WaitHints}
 
 -- What stands where there is no hint.
-abbrev pub blank : WaitHint
-blank = record { place = record { x = nought; y = nought }; until = record { 0 = pos 0 }; obstacle = 0 }
+abbrev pub blankHint : WaitHint
+blankHint = record { place = record { x = nought; y = nought }; until = record { 0 = pos 0 }; obstacle = 0 }
 
 -- A refusal holds its number alone (RULES 4.14).
 unfoldable pub refusedBy : ℕ → WaitHints
-refusedBy number = record { refused = number; count = 0; all = replicate 64 blank }
+refusedBy number = record { refused = number; count = 0; all = replicate 64 blankHint }
 
 -- No hints yet.
 unfoldable pub noHints : WaitHints
@@ -38,9 +39,9 @@ unfoldable pub withHint : WaitHints → WaitHint → WaitHints
 withHint hints h =
     cond (isPlaced (h .place))
     (cond (leb 64 (hints .count))
-    (refusedBy 10)
+    (refusedBy FULL)
     (record { refused = 0; count = hints .count + 1; all = set (hints .all) (hints .count) h }))
-    (refusedBy 7)
+    (refusedBy STRAYED)
 
 -- What a part of the search answered, for the obstacle of that number.
 unfoldable pub withWait : WaitHints → Wait → ℕ → WaitHints

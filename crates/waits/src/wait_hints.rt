@@ -54,11 +54,11 @@ impl WaitHints {
         ensures { λ r. ⌜ r ≡ withHint self hint ⌝ }
     {
         if !hint::is_placed(hint.place) {
-            return WaitHints::refused_by(7);
+            return WaitHints::refused_by(refusals::STRAYED);
         }
         let n = self.count;
         if 64 <= n {
-            return WaitHints::refused_by(10);
+            return WaitHints::refused_by(refusals::FULL);
         }
         let mut next = self;
         next.all[n] = hint;

@@ -9,24 +9,17 @@ use Rattle.shapes.specs.declared.waypoint.Waypoint.{Waypoint}
 use Rattle.obstacles.specs.Obstacle.{Obstacle}
 use Rattle.chains.specs.declared.trial.Trial.{Trial}
 use Rattle.chains.specs.declared.trial.Trial.the-variants as T
-use Rattle.ways.specs.Travel.{reachedFrom}
+use Rattle.ways.specs.Travel.{reachedFrom, withReached}
 use Rattle.ways.specs.Way.{wayOf, next, bothWays}
-use Rattle.ways.specs.declared.travel.Reached.{Reached}
-use Rattle.ways.specs.declared.travel.Reached.the-variants as W
 use Rattle.ways.specs.declared.trip.Trip.{Trip}
-
--- What follows a waypoint that is reached.
-abbrev pub reaching : Reached → (Waypoint → Trial) → Trial
-reaching (W.At w) go = go w
-reaching (W.Refused n) go = T.Refused n
 
 -- From the waypoint of a hint to the place of another, and waiting there until its time (RULES 13.10).
 unfoldable pub toEnd : Trip → List Obstacle → Waypoint → Waypoint → Trial
-toEnd trip os h end = reaching (reachedFrom (trip .speed) h (placeOf end)) (λ w. bothWays (trip .profile) os h w end)
+toEnd trip os h end = withReached T.Refused (reachedFrom (trip .speed) h (placeOf end)) (λ w. bothWays (trip .profile) os h w end)
 
 -- A root's way: the end is the goal's place, when the agent gets there (RULES 13.10).
 unfoldable pub toGoal : Trip → List Obstacle → Waypoint → Trial
-toGoal trip os h = reaching (reachedFrom (trip .speed) h (placeOf (trip .leg .end))) (λ end. toEnd trip os h end)
+toGoal trip os h = withReached T.Refused (reachedFrom (trip .speed) h (placeOf (trip .leg .end))) (λ end. toEnd trip os h end)
 
 -- Waiting at a hint's place from an arrival there, which may not be after the hint's time (RULES 13.16).
 unfoldable pub waitsAt : Trip → List Obstacle → Waypoint → Waypoint → Trial
@@ -35,7 +28,7 @@ waitsAt trip os w h = cond (ltZ (h .time .0) (w .time .0)) T.Failed (wayOf (trip
 -- A hint's own start: the way there, then the times, then the wait (RULES 13.16).
 unfoldable pub fromStart : Trip → List Obstacle → Waypoint → Trial
 fromStart trip os h =
-    reaching (reachedFrom (trip .speed) (trip .leg .start) (placeOf h)) (λ w.
+    withReached T.Refused (reachedFrom (trip .speed) (trip .leg .start) (placeOf h)) (λ w.
     next (wayOf (trip .profile) os (trip .leg .start) w) (λ _. waitsAt trip os w h))
 
 -- Staying at the goal from an arrival there until the time asked for, where that is later (RULES 13.5).
@@ -46,5 +39,5 @@ staysTill trip os w asked =
 -- The direct path (RULES 13.5).
 unfoldable pub straight : Trip → List Obstacle → TimePoint → Trial
 straight trip os asked =
-    reaching (reachedFrom (trip .speed) (trip .leg .start) (placeOf (trip .leg .end))) (λ w.
+    withReached T.Refused (reachedFrom (trip .speed) (trip .leg .start) (placeOf (trip .leg .end))) (λ w.
     next (wayOf (trip .profile) os (trip .leg .start) w) (λ _. staysTill trip os w asked))

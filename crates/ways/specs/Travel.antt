@@ -1,15 +1,14 @@
 -- When the agent is at a place (RULES 13.3).
 -- Assumes nothing.
+use Prim.Native.Nat.{ℕ}
 use lib.Ieee
 use lib.Ieee.{Float, binary64}
-use Rattle.numbers.specs.Time.{instantAfterSeconds}
-use Rattle.numbers.specs.declared.time.Instant.{Instant}
-use Rattle.numbers.specs.declared.time.Instant.the-variants as I
+use Rattle.refusals.specs.Names.{NUMBER, STRAYED}
+use Rattle.root.specs.Root.{withRoot}
+use Rattle.numbers.specs.Time.{instantAfterSeconds, withInstant}
 use Rattle.numbers.specs.declared.time.TimePoint.{TimePoint}
-use Rattle.root.specs.declared.nearest.Root.{Root}
-use Rattle.root.specs.declared.nearest.Root.the-variants as R
 use Rattle.shapes.specs.Leg.{placeOf}
-use Rattle.shapes.specs.Vector.{difference}
+use Rattle.shapes.specs.Vector.{vectorDifference}
 use Rattle.shapes.specs.declared.vector.Vector.{Vector}
 use Rattle.shapes.specs.declared.waypoint.Waypoint.{Waypoint}
 use Rattle.courses.specs.Norm.{normOf}
@@ -22,22 +21,17 @@ abbrev pub waypointAt : Vector → TimePoint → Waypoint
 waypointAt place t = record { time = t; x = place .x; y = place .y }
 
 -- The waypoint of a hint: its place, at its `until` (RULES 13.10).
-unfoldable pub waypointOf : WaitHint → Waypoint
-waypointOf h = waypointAt (h .place) (h .until)
-
--- ---- Going on with a part that may be refused.
-
-abbrev pub rooted : Root → (Float → Reached) → Reached
-rooted (R.Of s) go = go s
-rooted R.Refused go = W.Refused 1
-
-abbrev pub arriving : Instant → (TimePoint → Reached) → Reached
-arriving (I.At t) go = go t
-arriving I.Strayed go = W.Refused 7
+unfoldable pub hintWaypoint : WaitHint → Waypoint
+hintWaypoint h = waypointAt (h .place) (h .until)
 
 -- The distance divided by the speed, as seconds after the time of the waypoint that is left (RULES 13.3).
 unfoldable pub reachedFrom : Float → Waypoint → Vector → Reached
 reachedFrom speed from place =
-    rooted (normOf (difference place (placeOf from))) (λ length.
-    arriving (instantAfterSeconds (from .time) (Ieee.div binary64 length speed)) (λ t.
+    withRoot (W.Refused NUMBER) (normOf (vectorDifference place (placeOf from))) (λ distance.
+    withInstant (W.Refused STRAYED) (instantAfterSeconds (from .time) (Ieee.div binary64 distance speed)) (λ t.
     W.At (waypointAt place t)))
+
+-- Going on with the waypoint that is reached, or with the number of the refusal.
+abbrev pub withReached : {A : Type 0} → (ℕ → A) → Reached → (Waypoint → A) → A
+withReached refused (W.At w) go = go w
+withReached refused (W.Refused n) go = refused n

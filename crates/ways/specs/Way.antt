@@ -13,16 +13,16 @@ use Rattle.chains.specs.declared.trial.Trial.{Trial}
 use Rattle.chains.specs.declared.trial.Trial.the-variants as T
 
 -- A verdict as a test: a clear segment passes it.
-abbrev pub judged : Verdict → Trial
-judged J.Clear = T.Passed
-judged J.Conflict = T.Failed
-judged (J.Refused n) = T.Refused n
+abbrev pub trialOf : Verdict → Trial
+trialOf J.Clear = T.Passed
+trialOf J.Conflict = T.Failed
+trialOf (J.Refused n) = T.Refused n
 
 -- The segment from one waypoint to another, in the box of the agent's footprint (RULES 9.7).
 unfoldable pub wayOf : CircularProfile → List Obstacle → Waypoint → Waypoint → Trial
 wayOf p os from to =
     let leg : Leg = record { start = from; end = to } in
-    judged (segmentOf leg (boxOfLeg (p .footprint) leg) os)
+    trialOf (segmentOf leg (boxOfLeg (p .footprint) leg) os)
 
 -- What follows a test that is passed; else that test's own end (RULES 5.8).
 abbrev pub next : Trial → (Unit {0} → Trial) → Trial

@@ -6,7 +6,7 @@ use shapes::vector::Vector;
 use shapes::waypoint::Waypoint;
 use waits::hint::WaitHint;
 ghost use mathlib.Core.Path.{_≡_};
-ghost use Rattle.ways.specs.Travel.{waypointOf, reachedFrom};
+ghost use Rattle.ways.specs.Travel.{hintWaypoint, reachedFrom};
 
 // A waypoint, or a refusal and its number.
 pub enum Reached {
@@ -16,7 +16,7 @@ pub enum Reached {
 
 // The waypoint of a hint: its place, at the end of the wait.
 pub fn waypoint_of(hint: WaitHint) -> Waypoint
-    ensures { λ r. ⌜ r ≡ waypointOf hint ⌝ }
+    ensures { λ r. ⌜ r ≡ hintWaypoint hint ⌝ }
 {
     let at = hint.place;
     let time = hint.until;
@@ -32,12 +32,12 @@ pub fn arrival_at(speed: f64, from: Waypoint, place: Vector) -> Reached
     ensures { λ r. ⌜ r ≡ reachedFrom speed from place ⌝ }
 {
     let long = norm::norm(place.minus(from.place()));
-    let Root::Of(length) = long else {
-        return Reached::Refused(1);
+    let Root::Of(distance) = long else {
+        return Reached::Refused(refusals::NUMBER);
     };
-    let arrival = from.time.plus_secs_f64(length / speed);
+    let arrival = from.time.plus_secs_f64(distance / speed);
     let Instant::At(time) = arrival else {
-        return Reached::Refused(7);
+        return Reached::Refused(refusals::STRAYED);
     };
     Reached::At(Waypoint {
         time,

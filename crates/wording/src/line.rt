@@ -3,13 +3,13 @@ use texts::numerals;
 use texts::room;
 ghost use Prim.Native.Nat.{_<_};
 ghost use lib.ListN.{length};
-ghost use Rattle.texts.specs.Room.{Put};
+ghost use Rattle.texts.specs.Room.{PutText};
 ghost use Rattle.wording.specs.Lines.{okLine, pathLine, moveLine, waitLine, refusedLine};
 
 // Puts a word. An empty one would leave a place far past the room's end as it is.
 fn put_word(out: &mut [u8], at: usize, word: &[u8]) -> usize
     requires { ⌜ 0 < length (now word) ⌝ }
-    ensures { λ r. ⌜ Put (now (word .entry)) (now (out .entry)) at (now (out .exit)) r ⌝ }
+    ensures { λ r. ⌜ PutText (now (word .entry)) (now (out .entry)) at (now (out .exit)) r ⌝ }
 {
     let mut next = at;
     let mut i = 0;
@@ -21,7 +21,7 @@ fn put_word(out: &mut [u8], at: usize, word: &[u8]) -> usize
 }
 
 pub fn put_ok(out: &mut [u8], hints: u64, times: u64, sweeps: u64, paths: u64) -> usize
-    ensures { λ r. ⌜ Put (okLine hints times sweeps paths) (now (out .entry)) 0 (now (out .exit)) r ⌝ }
+    ensures { λ r. ⌜ PutText (okLine hints times sweeps paths) (now (out .entry)) 0 (now (out .exit)) r ⌝ }
 {
     let mut at = put_word(out, 0, b"ok");
     at = numerals::put_count(out, at, hints);
@@ -32,7 +32,7 @@ pub fn put_ok(out: &mut [u8], hints: u64, times: u64, sweeps: u64, paths: u64) -
 }
 
 pub fn put_path(out: &mut [u8], at: usize, arrival: u64, pops: u64, hold: u64) -> usize
-    ensures { λ r. ⌜ Put (pathLine arrival pops hold) (now (out .entry)) at (now (out .exit)) r ⌝ }
+    ensures { λ r. ⌜ PutText (pathLine arrival pops hold) (now (out .entry)) at (now (out .exit)) r ⌝ }
 {
     let mut next = put_word(out, at, b"path");
     next = numerals::put_time(out, next, arrival);
@@ -42,7 +42,7 @@ pub fn put_path(out: &mut [u8], at: usize, arrival: u64, pops: u64, hold: u64) -
 }
 
 pub fn put_move(out: &mut [u8], at: usize, time: u64, x: u64, y: u64) -> usize
-    ensures { λ r. ⌜ Put (moveLine time x y) (now (out .entry)) at (now (out .exit)) r ⌝ }
+    ensures { λ r. ⌜ PutText (moveLine time x y) (now (out .entry)) at (now (out .exit)) r ⌝ }
 {
     let mut next = put_word(out, at, b"move");
     next = numerals::put_time(out, next, time);
@@ -52,7 +52,7 @@ pub fn put_move(out: &mut [u8], at: usize, time: u64, x: u64, y: u64) -> usize
 }
 
 pub fn put_wait(out: &mut [u8], at: usize, obstacle: u64, end: u64) -> usize
-    ensures { λ r. ⌜ Put (waitLine obstacle end) (now (out .entry)) at (now (out .exit)) r ⌝ }
+    ensures { λ r. ⌜ PutText (waitLine obstacle end) (now (out .entry)) at (now (out .exit)) r ⌝ }
 {
     let mut next = put_word(out, at, b"wait");
     next = numerals::put_count(out, next, obstacle);
@@ -61,7 +61,7 @@ pub fn put_wait(out: &mut [u8], at: usize, obstacle: u64, end: u64) -> usize
 }
 
 pub fn put_refused(out: &mut [u8], number: u64) -> usize
-    ensures { λ r. ⌜ Put (refusedLine number) (now (out .entry)) 0 (now (out .exit)) r ⌝ }
+    ensures { λ r. ⌜ PutText (refusedLine number) (now (out .entry)) 0 (now (out .exit)) r ⌝ }
 {
     let at = put_word(out, 0, b"refused");
     let end = numerals::put_count(out, at, number);

@@ -33,15 +33,19 @@ impl Report {
             .or_default()
             .entry(expected.number)
             .or_default() += 1;
-        if handed == expected {
+        self.hold(handed == expected, || {
+            format!("{}: handed {handed:x?}, expected {expected:x?}", about())
+        });
+    }
+
+    /// A difference unless `same`.
+    pub fn hold(&mut self, same: bool, about: impl FnOnce() -> String) {
+        if same {
             return;
         }
         self.differing += 1;
         if self.told.len() < TOLD {
-            self.told.push(format!(
-                "{}: handed {handed:x?}, expected {expected:x?}",
-                about()
-            ));
+            self.told.push(about());
         }
     }
 
@@ -94,5 +98,65 @@ impl fmt::Display for Report {
         self.told
             .iter()
             .try_for_each(|told| writeln!(f, "  DIFFERS {told}"))
+    }
+}
+
+#[cfg(test)]
+mod tests {
+    use super::Report;
+    use crate::room::{lend, Expected, Handed};
+
+    /// What is reported of a call that is to answer the words 1 and 2 in a buffer of three.
+    fn reported(call: impl FnOnce(&mut [u64]) -> u64) -> Report {
+        let mut report = Report::default();
+        let handed = lend(3, call);
+        let expected = Expected::Words(vec![1, 2]).in_room(3);
+        report.add("a call", &handed, &expected, || "it".to_string());
+        report
+    }
+
+    fn answer(out: &mut [u64], words: [u64; 3]) -> u64 {
+        out.copy_from_slice(&words);
+        0
+    }
+
+    #[test]
+    fn the_right_answer_does_not_differ() {
+        assert_eq!(reported(|out| answer(out, [1, 2, 0])).differing(), 0);
+    }
+
+    #[test]
+    fn one_other_bit_differs() {
+        assert_eq!(reported(|out| answer(out, [1, 3, 0])).differing(), 1);
+    }
+
+    #[test]
+    fn a_word_left_behind_the_answer_differs() {
+        assert_eq!(reported(|out| answer(out, [1, 2, 9])).differing(), 1);
+    }
+
+    #[test]
+    fn an_untouched_buffer_differs() {
+        assert_eq!(reported(|_| 0).differing(), 1);
+    }
+
+    #[test]
+    fn another_number_differs_and_is_told() {
+        let report = reported(|out| answer(out, [1, 2, 0]) + 7);
+        assert_eq!(report.differing(), 1);
+        assert!(report.to_string().contains("DIFFERS it: handed"));
+    }
+
+    #[test]
+    fn a_refusal_with_words_left_differs() {
+        let mut report = Report::default();
+        let handed = Handed {
+            number: 2,
+            room: vec![5, 0],
+        };
+        report.add("a call", &handed, &Expected::Refused(2).in_room(2), || {
+            String::new()
+        });
+        assert_eq!(report.differing(), 1);
     }
 }

@@ -276,6 +276,10 @@ pub(crate) fn line(leg: Leg) -> (WaypointR2, WaypointR2) {
     (waypoint(leg.0), waypoint(leg.1))
 }
 
+/// Which way the last search for hints went.
+#[cfg(feature = "watched")]
+pub use reach::trail::take as hint_trail;
+
 #[cfg(feature = "watched")]
 pub use reach::watch::search;
 

@@ -4,6 +4,7 @@
 pub mod answers;
 pub mod domain;
 pub mod generate;
+pub mod hint_walk;
 pub mod lines;
 pub mod marked;
 pub mod plan;
@@ -11,3 +12,4 @@ pub mod replies;
 pub mod request;
 pub mod stream;
 pub mod tally;
+pub mod worked;

@@ -134,6 +134,43 @@ pub struct Search {
     pub short_backward_ways: usize,
 }
 
+/// What stores a hint.
+#[derive(Clone, Copy, Debug, PartialEq, Eq)]
+pub enum Storing {
+    /// RULES 10.13.
+    Crossing,
+    /// Within the follow distance (RULES 10.19).
+    Within,
+    /// Caught up by then (RULES 10.20).
+    CaughtUp,
+    /// A round of the sawtooth (RULES 10.22).
+    Round,
+    /// RULES 10.27.
+    Standing,
+    /// RULES 10.28.
+    Oncoming,
+}
+
+/// Which way a search for hints went, as far as it can be told from outside.
+#[derive(Clone, Debug, Default, PartialEq, Eq)]
+pub struct HintTrail {
+    /// Legs whose boxes overlap the agent's and that were not refused before their aligned speed
+    /// was worked out (RULES 10.14).
+    pub legs: usize,
+    /// Motions held against a line, and those of them that came to its end (RULES 10.30, 10.35).
+    pub lines: usize,
+    pub line_ends: usize,
+    /// Motions held against a place (RULES 10.38).
+    pub places: usize,
+    /// Legs whose direction was asked for (RULES 10.10).
+    pub directions: usize,
+    /// Legs to follow, and those of them that are not too near (RULES 10.17).
+    pub followed: usize,
+    pub apart: usize,
+    /// What stored each hint, a refused one too.
+    pub stored: Vec<Storing>,
+}
+
 /// Why a call of the Rust gave no answer, told apart by where it stopped.
 #[derive(Clone, Debug, PartialEq, Eq)]
 pub enum Fault {

@@ -1,18 +1,21 @@
 //! The ranked hints of a leg of the agent's among all obstacles (RULES, sections 10 and 11): every
 //! field of every hint by its bits, and their order. Where contour and reach are both equal the
-//! Rust's order is open (RULES 11.7); there its own order of finding decides.
+//! Rust's order is open (RULES 11.7); there its own order of finding decides. How many of the cases
+//! took each branch of the search is told by a walk of its own, which is held to the Rust's.
 
 use crate::draw::{each, misshape, on_floor, Drawn};
+use crate::hint_branches::{self, bits};
 use crate::lent::ask_once;
 use crate::lent_hints;
 use crate::proved;
+use crate::rarities;
 use crate::report::Report;
 use crate::room::Expected;
 use mapf_watched::ask;
 use planner::domain;
 use planner::generate::dice::Dice;
 use planner::request::Request;
-use terms::{Fault, Leg, Obstacle, Profile, RankedHint, WaitHint, Waypoint};
+use terms::{Fault, Leg, Obstacle, Profile, RankedHint, Waypoint};
 
 /// Under so many nanoseconds the call is refused 4 (RULES 4.13).
 const SHORT: i64 = 10;
@@ -30,6 +33,8 @@ pub fn compare(seed: u64, count: u64) -> Report {
         let right = |report: &mut Report| {
             let expected = expected(&request);
             look(report, &expected);
+            let searched = refused_before(&request).is_none();
+            hint_branches::tell(report, searched.then_some(&request));
             expected
         };
         ask_once(
@@ -66,7 +71,8 @@ fn look(report: &mut Report, expected: &Expected) {
     }
 }
 
-/// The request with another leg of the agent's in some cases, and in some with other obstacles.
+/// The request with another leg of the agent's in some cases, and in some with other obstacles; or a
+/// rare meeting.
 fn asked(drawn: &mut Drawn) -> Request {
     let (from, to) = agent_leg(drawn);
     let mut request = Request {
@@ -75,6 +81,10 @@ fn asked(drawn: &mut Drawn) -> Request {
         ..drawn.request.clone()
     };
     let d = &mut drawn.dice;
+    if d.one_in(4) {
+        rarities::asked(d, &mut request);
+        return request;
+    }
     let obstacles = &mut request.scene.obstacles;
     if d.one_in(2) && obstacles.len() < domain::OBSTACLES {
         let place = d.count(0, obstacles.len());
@@ -144,12 +154,18 @@ fn agent_leg(drawn: &mut Drawn) -> Leg {
     }
 }
 
-fn expected(request: &Request) -> Expected {
-    if let Some(number) = domain::refused(request) {
-        return Expected::Refused(number.into());
+/// The refusal that comes before any search.
+fn refused_before(request: &Request) -> Option<u64> {
+    let brief = || request.to.time - request.from.time < SHORT;
+    match domain::refused(request) {
+        Some(number) => Some(number.into()),
+        None => brief().then_some(NO_LINE),
     }
-    if request.to.time - request.from.time < SHORT {
-        return Expected::Refused(NO_LINE);
+}
+
+fn expected(request: &Request) -> Expected {
+    if let Some(number) = refused_before(request) {
+        return Expected::Refused(number);
     }
     match ranked(request) {
         Ok(hints) => Expected::Words(lent_hints::words(&hints)),
@@ -178,11 +194,56 @@ fn ranked(request: &Request) -> Result<Vec<RankedHint>, Fault> {
     Ok(ranked)
 }
 
-fn bits(hint: &WaitHint) -> (u64, u64, i64, usize) {
-    (
-        hint.x.to_bits(),
-        hint.y.to_bits(),
-        hint.until,
-        hint.obstacle,
-    )
+#[cfg(test)]
+mod tests {
+    use super::*;
+    use crate::hint_branches::is_the_rusts;
+    use crate::room::lend;
+    use crate::table::Table;
+    use planner::hint_walk::{walk, Branch};
+    use planner::worked::examples;
+    use std::collections::BTreeMap;
+
+    /// So many cases, and each branch in one of a hundred of them.
+    const CASES: u64 = 20_000;
+    const SHARE: usize = 200;
+
+    #[test]
+    fn every_branch_comes_in_its_share() {
+        let mut taken: BTreeMap<Branch, usize> = BTreeMap::new();
+        each(11, CASES, |drawn| {
+            let request = asked(drawn);
+            if refused_before(&request).is_none() {
+                let walked = walk(request.from, request.to, &request.scene);
+                assert!(is_the_rusts(&walked, &request), "{request:?}");
+                for branch in walked.branches {
+                    *taken.entry(branch).or_default() += 1;
+                }
+            }
+        });
+        for (branch, name) in Branch::ALL {
+            let count = taken.remove(&branch).unwrap_or_default();
+            let held = match Branch::UNSEEN.contains(&branch) {
+                true => count == 0,
+                false => count >= SHARE,
+            };
+            assert!(held, "{name}: {count} of {CASES}");
+        }
+        assert_eq!(taken, BTreeMap::new());
+    }
+
+    #[test]
+    fn the_proved_call_gives_the_hints_worked_out() {
+        for example in examples() {
+            let expected = match example.ranked() {
+                Ok(hints) => Expected::Words(lent_hints::words(&hints)),
+                Err(number) => Expected::Refused(number.into()),
+            };
+            let (table, len) = (Table::of(&example.scene), expected.room());
+            let handed = lend(len, |out| {
+                proved::wait_hints(example.scene.agent, example.leg, &table, out)
+            });
+            assert_eq!(handed, expected.in_room(len), "{}", example.name);
+        }
+    }
 }

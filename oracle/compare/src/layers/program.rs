@@ -1,4 +1,5 @@
-//! What `plan` prints for a stream, byte for byte, in a lent room (RULES, sections 14 and 15).
+//! The reply to a stream in a lent room: the text of a plan byte for byte, or the number of a refusal
+//! and a room of zeros (RULES, sections 4, 14 and 15).
 
 use crate::crossings;
 use crate::draw::{beside, Drawn};
@@ -13,7 +14,7 @@ use planner::{lines, stream};
 /// The room that the program has.
 const WHOLE: usize = 164_517;
 
-/// The first line of a reply, by the refusal's number.
+/// What a reply is, by the refusal's number.
 const REFUSED: [&str; 13] = [
     "reply: a plan",
     "reply: refused 1",
@@ -36,12 +37,10 @@ pub fn compare(seed: u64, count: u64) -> Report {
         let made = case(seed, number, None);
         let kind = made.kind;
         let (bytes, mut dice) = asked(made, beside(seed, number));
-        let text = expected(&mut report, &bytes);
-        let len = room(&mut dice, text.len());
+        let expected = expected(&mut report, &bytes);
+        let len = room(&mut dice, expected.room());
         let handed = lend(len, |out| proved::plan(&bytes, out));
-        let words = text.bytes().map(u64::from).collect();
-        let expected = Expected::Words(words).in_room(len);
-        report.add(kind.name(), &handed, &expected, || {
+        report.add(kind.name(), &handed, &expected.in_room(len), || {
             format!("the stream {bytes:02x?} in {len} bytes")
         });
     }
@@ -64,24 +63,34 @@ fn asked(made: Case, mut dice: Dice) -> (Vec<u8>, Dice) {
     }
 }
 
-fn expected(report: &mut Report, bytes: &[u8]) -> String {
+/// A plan is expected as the bytes of its lines. Where the Rust fails and the rules name no refusal,
+/// it is a number that none has.
+fn expected(report: &mut Report, bytes: &[u8]) -> Expected {
     let planned = plan::of_stream(bytes);
     match planned {
-        Ok(_) => report.see(REFUSED[0]),
-        Err(Stop::Refused(n)) => report.see(REFUSED[usize::from(n)]),
-        Err(Stop::Odd(_)) => report.see("reply: none by the rules"),
+        Ok(_) => {
+            report.see(REFUSED[0]);
+            Expected::Words(lines::of(&planned).bytes().map(u64::from).collect())
+        }
+        Err(Stop::Refused(n)) => {
+            report.see(REFUSED[usize::from(n)]);
+            Expected::Refused(u64::from(n))
+        }
+        Err(Stop::Odd(fault)) => {
+            report.see("reply: none by the rules");
+            Expected::fault(&fault)
+        }
     }
-    lines::of(&planned)
 }
 
-/// Exactly enough or some bytes more; in some cases one byte too few, none, or the program's own room.
-fn room(dice: &mut Dice, text: usize) -> usize {
+/// A room that suits or some bytes more; in some cases one byte too few, none, or the program's own room.
+fn room(dice: &mut Dice, suits: usize) -> usize {
     match dice.whole(0, 63) {
-        0..=3 => text - 1,
+        0..=3 => suits - 1,
         4 => 0,
         5 => WHOLE,
-        6..=20 => text,
-        _ => text + 100,
+        6..=20 => suits,
+        _ => suits + 100,
     }
 }
 

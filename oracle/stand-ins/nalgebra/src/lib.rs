@@ -1,5 +1,9 @@
 //! Stands in for nalgebra, which Debian does not have: vectors and points of the plane, each
-//! operation rounded as RULES 2.12 to 2.15 say.
+//! operation rounded as RULES 2.12 to 2.15 say. In the watched build each dot product and each
+//! direction is told with the place that asks for it.
+
+#[cfg(feature = "watched")]
+pub mod asked;
 
 use std::ops::{Add, Deref, Div, Mul, Sub};
 
@@ -28,7 +32,10 @@ impl Vector2<f64> {
     }
 
     /// x*x' + y*y', three roundings.
+    #[cfg_attr(feature = "watched", track_caller)]
     pub fn dot(&self, other: &Self) -> f64 {
+        #[cfg(feature = "watched")]
+        asked::tell();
         self.x * other.x + self.y * other.y
     }
 
@@ -41,7 +48,10 @@ impl Vector2<f64> {
     }
 
     /// Needs a norm above `least`, and divides each coordinate by it.
+    #[cfg_attr(feature = "watched", track_caller)]
     pub fn try_normalize(&self, least: f64) -> Option<Self> {
+        #[cfg(feature = "watched")]
+        asked::tell();
         let norm = self.norm();
         (norm > least).then(|| *self / norm)
     }

@@ -9,11 +9,16 @@ use std::any::type_name;
 use std::cell::Cell;
 use std::cmp::Ordering;
 use std::ops::{Deref, DerefMut};
+use std::panic::Location;
 
 /// What is about to happen to a list.
 pub enum Event {
-    /// An element, behind this pointer, is about to join a list of so many.
-    Push { element: *const (), len: usize },
+    /// An element, behind this pointer, is about to join a list of so many, by this place.
+    Push {
+        element: *const (),
+        len: usize,
+        place: &'static Location<'static>,
+    },
     /// The element behind this pointer is about to be removed.
     Pop { element: *const () },
 }
@@ -44,10 +49,14 @@ impl<A: Array> SmallVec<A> {
         SmallVec(smallvec::SmallVec::new())
     }
 
+    #[track_caller]
     pub fn push(&mut self, value: A::Item) {
-        let element = (&value as *const A::Item).cast();
-        let len = self.0.len();
-        tell(type_name::<A::Item>(), Event::Push { element, len });
+        let pushed = Event::Push {
+            element: (&value as *const A::Item).cast(),
+            len: self.0.len(),
+            place: Location::caller(),
+        };
+        tell(type_name::<A::Item>(), pushed);
         self.0.push(value);
     }
 
@@ -121,8 +130,14 @@ mod tests {
     use super::*;
 
     fn stop_at_two(element: &'static str, event: Event) {
-        if let Event::Push { element: at, len } = event {
+        if let Event::Push {
+            element: at,
+            len,
+            place,
+        } = event
+        {
             assert_eq!(element, "u8");
+            assert_eq!(place.file(), file!());
             // SAFETY: the name says that the pointer is to a u8, alive during the call.
             assert_ne!(unsafe { *at.cast::<u8>() }, 9);
             assert!(len < 2);

@@ -7,11 +7,11 @@ use native.Mathlib.Omega.{arith}
 use borrow.Author.Needs.{needs}
 use lib.ListN.{length, length-map, length-take, getD}
 use lib.Seq.{getD-take}
-use Rattle.ranking.specs.Hints.{blank, held}
+use Rattle.ranking.specs.Hints.{blankRanked, rankedHeld}
 use Rattle.ranking.specs.declared.order.RankedHint.{RankedHint}
 use Rattle.chains.specs.Handed.{linksIn}
 use Rattle.actions.specs.Built.{Built}
-use Rattle.actions.specs.Laid.{Put}
+use Rattle.actions.specs.Laid.{PutActions}
 use Rattle.actions.specs.declared.building.Hold.{Hold}
 use Rattle.actions.proofs.Left.{put-placed}
 use Rattle.actions.proofs.Counted.{few-links}
@@ -21,7 +21,7 @@ use Rattle.actions.proofs.building.build.Tie as tie
 
 abbrev Inv-loop : tie.InvT-loop
 Inv-loop trip hints out₀ row chain n from₀ hold₀ at₀ k₀ out from hold at k =
-    Going trip (held hints) (linksIn chain) out₀ at₀ from hold at k out
+    Going trip (rankedHeld hints) (linksIn chain) out₀ at₀ from hold at k out
 
 abbrev μ-loop : tie.MeasureT-loop
 μ-loop trip hints out₀ row chain n from₀ hold₀ at₀ k₀ out from hold at k = n - k
@@ -53,7 +53,7 @@ there c = omega (arith, c .before .before .before .before .before .len .ensures)
 hint-here : (c : tie.After-at Inv-loop μ-loop) →
     let l = c .before .before .before in
     let a = l .before .before .before .before .before .before .before .args in
-    c .at .result .hint ≡ getD (held (a .hints)) (getD (linksIn (a .t3)) (l .loop .k) 0) blank .hint
+    c .at .result .hint ≡ getD (rankedHeld (a .hints)) (getD (linksIn (a .t3)) (l .loop .k) 0) blankRanked .hint
 unfolding linksIn
 hint-here c =
     let l = c .before .before .before in
@@ -65,7 +65,7 @@ hint-here c =
 -- What is put from the place on is put from the row on.
 at-row : (c : tie.After-place Inv-loop μ-loop) {b : Built} {left : List ℕ} {r : Hold} →
     let a = c .before .before .before .before .before .before .args in
-    Put b (a .out .now) left (c .place .result) r → Put b (a .out .now) left (a .row) r
+    PutActions b (a .out .now) left (c .place .result) r → PutActions b (a .out .now) left (a .row) r
 at-row c put =
     let a = c .before .before .before .before .before .before .args in
     put-placed (a .row) (rw (c .place .ensures) at put)
@@ -79,7 +79,7 @@ place-requires c κs = search needs
 loop-holds : tie.Need-loop-holds Inv-loop μ-loop
 loop-holds c =
     let a = c .before .before .before .before .before .before .args in
-    going-begin (a .trip) (held (a .hints)) (linksIn (a .t3)) (a .out .now) (c .place .result)
+    going-begin (a .trip) (rankedHeld (a .hints)) (linksIn (a .t3)) (a .out .now) (c .place .result)
 
 mul-at : tie.Need-mul-at Inv-loop μ-loop
 mul-at c = omega (arith, few (c .before .before .before .before .before))

@@ -1,17 +1,19 @@
--- `answering::reply::reply` meets its contract: the text of the plan's rooms is the plan's.
+-- `answering::reply::reply` meets its contract: a number that is not 0 is a refusal's, and else the text of the plan's rooms is the
+-- plan's.
 -- Assumes nothing.
 use borrow.Author.Needs.{needs}
+use borrow.Author.Tests.{eq-eqb, ne-eqb}
 use denote.Ref.{now}
-use Prim.Native.Nat.{ℕ, _≤_}
-use mathlib.Core.Path.{_≡_}
+use Prim.Native.Nat.{ℕ, _^_, _<_}
+use mathlib.Core.Path.{_≡_, refl, _∙_}
 use mathlib.Core.List.{List}
 use native.Mathlib.Omega.{arith}
 use lib.ListN.{length}
-use Rattle.telling.specs.Answer.{answerText}
-use Rattle.requests.specs.Asked.{streamPlan}
-use Rattle.answering.specs.Text.{streamText}
-use Rattle.answering.proofs.Asked.{numbered, few}
-use Rattle.answering.proofs.Roomed.{told-plan}
+use Rattle.lists.specs.Outcome.{Gives, Refuses}
+use Rattle.wording.proofs.Sizes.{refused-short}
+use Rattle.telling.specs.Answer.{planLines}
+use Rattle.answering.specs.Text.{printed, streamReply, streamText}
+use Rattle.answering.proofs.Roomed.{told-stream}
 use Rattle.answering.proofs.reply.reply.Statement.{statement}
 use Rattle.answering.proofs.reply.reply.Tie as tie
 
@@ -24,6 +26,26 @@ slice-aggregate-plan-2 c = search needs
 plan-requires : tie.Need-plan-requires
 plan-requires c κs = search needs
 
+refuse-requires : tie.Need-refuse-requires
+refuse-requires c κs = search needs
+
+same-length : tie.Need-same-length
+same-length c = search needs
+
+returns : tie.Need-returns
+unfolding streamText printed
+returns c =
+    let test = c .before .before .before .before in
+    let b = test .before .before .before in
+    let s : List ℕ = now (b .before .before .before .before .before .args .s) in
+    let number : ℕ = b .plan .result in
+    let word : number < 2 ^ 64 = search needs in
+    let answer : streamReply s ≡ Refuses number =
+    told-stream s refl refl (b .plan .ensures) ∙ rw (ne-eqb number 0 (test .if1 .taken)) in (
+      rw answer (c .before .before .refuse .ensures),
+      rw answer (omega (arith, refused-short number word)),
+    )
+
 slice-aggregate-put-answer : tie.Need-slice-aggregate-put-answer
 slice-aggregate-put-answer c = search needs
 
@@ -33,23 +55,25 @@ slice-aggregate-put-answer-2 c = search needs
 put-answer-requires : tie.Need-put-answer-requires
 put-answer-requires c κs = search needs
 
-same-length : tie.Need-same-length
-same-length c = search needs
+same-length-2 : tie.Need-same-length-2
+same-length-2 c = search needs
 
-returns : tie.Need-returns
-unfolding streamText
-returns c =
-    let b = c .before .before .before .before .before .before .before .before in
+returns-2 : tie.Need-returns-2
+unfolding streamText printed
+returns-2 c =
+    let test = c .before .before .before .before .before .before in
+    let b = test .before .before .before in
     let put = c .before .before .put-answer .ensures in
-    let handed = b .plan .ensures in
     let s : List ℕ = now (b .before .before .before .before .before .args .s) in
-    let same = told-plan (streamPlan s) (numbered s) (few s) in
-    let rows : length (b .plan .last .1 .0) ≡ 1160 = b .plan .kept .1 .0 in
-    let more : length (b .plan .last .1 .1 .0) ≡ 6400 = b .plan .kept .1 .1 .0 in
-    let short : length (answerText (b .plan .result) (b .plan .last .1 .0) (b .plan .last .1 .1 .0)) ≤ 164517 =
-    omega (arith, put .1, rows, more) in (
-      rw (handed .number, handed .room, handed .actions, same) at (put .0),
-      rw (handed .number, handed .room, handed .actions, same) at short,
+    let number : ℕ = b .plan .result in
+    let paths : List ℕ = b .plan .last .1 .0 in
+    let actions : List ℕ = b .plan .last .1 .1 .0 in
+    let rows : length paths ≡ 1160 = b .plan .kept .1 .0 in
+    let more : length actions ≡ 6400 = b .plan .kept .1 .1 .0 in
+    let answer : streamReply s ≡ Gives (planLines paths actions) =
+    told-stream s refl refl (b .plan .ensures) ∙ rw (eq-eqb number 0 (test .if1 .left)) in (
+      rw answer (put .0),
+      rw answer (omega (arith, put .1, rows, more)),
     )
 
 pub reply-spec : {M : Type 1} → statement M
@@ -59,8 +83,11 @@ reply-spec =
     slice-aggregate-plan
     slice-aggregate-plan-2
     plan-requires
+    refuse-requires
+    same-length
+    returns
     slice-aggregate-put-answer
     slice-aggregate-put-answer-2
     put-answer-requires
-    same-length
-    returns)
+    same-length-2
+    returns-2)

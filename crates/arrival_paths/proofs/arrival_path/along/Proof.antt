@@ -5,7 +5,7 @@ use mathlib.Core.Path.{_≡_}
 use native.Mathlib.Omega.{arith}
 use borrow.Author.Needs.{needs}
 use lib.ListN.{length, length-map}
-use Rattle.ranking.specs.Hints.{held}
+use Rattle.ranking.specs.Hints.{rankedHeld}
 use Rattle.chains.specs.Handed.{linksIn}
 use Rattle.actions.specs.Built.{Built, built, hintsAt, unheld}
 use Rattle.actions.proofs.Counted.{chain-counts, few-links}
@@ -46,7 +46,7 @@ same-length c = search needs
 abbrev along : (c : tie.After-len) → Built
 along c =
     let a = c .before .before .args in
-    built (a .trip) (a .trip .leg .start) unheld (hintsAt (held (a .hints)) (linksIn (a .chain)))
+    built (a .trip) (a .trip .leg .start) unheld (hintsAt (rankedHeld (a .hints)) (linksIn (a .chain)))
 
 returns : tie.Need-returns
 unfolding alongHints
@@ -64,7 +64,7 @@ returns-2 c =
     let put = c .before .before .before .before .before in
     let n = put .before .before in
     let a = n .before .before .args in
-    let counts = rw (← n .len .ensures) at (chain-counts (a .trip) (held (a .hints)) (linksIn (a .chain))) in
+    let counts = rw (← n .len .ensures) at (chain-counts (a .trip) (rankedHeld (a .hints)) (linksIn (a .chain))) in
     along-found (along n) (a .pops) (put .build .ensures) _ _ counts (c .before .hold2 .given .1)
 
 pub along-spec : {M : Type 1} → statement M

@@ -4,7 +4,7 @@ use mathlib.Core.Path.{_≡_, sym, _∙_}
 use borrow.Author.Tests.{eq-eqb, ne-eqb}
 use borrow.Author.Needs.{needs}
 use lib.ListN.{length}
-use Rattle.ranking.specs.Hints.{held}
+use Rattle.ranking.specs.Hints.{rankedHeld}
 use Rattle.arrival_paths.specs.Path.{byHints}
 use Rattle.arrival_paths.proofs.Left.{put-missing, put-refused}
 use Rattle.arrival_paths.proofs.arrival_path.by_hints.Statement.{statement}
@@ -16,11 +16,11 @@ len-requires c κs = search needs
 returns : tie.Need-returns
 unfolding byHints
 returns c =
-    let hints = held (c .before .before .before .before .before .before .before .before .args .hints) in
+    let hints = rankedHeld (c .before .before .before .before .before .before .before .before .args .hints) in
     rw (eq-eqb (length hints) 0 (sym (c .before .len .ensures) ∙ c .if1 .taken)) (put-missing 0)
 
 -- There is a hint.
-some : (c : tie.Else1) → length (held (c .before .before .before .before .before .before .before .before .args .hints)) ≡ 0 → ⊥
+some : (c : tie.Else1) → length (rankedHeld (c .before .before .before .before .before .before .before .before .args .hints)) ≡ 0 → ⊥
 some c e = c .if1 .left (c .before .len .ensures ∙ e)
 
 goal-contour-requires : tie.Need-goal-contour-requires
@@ -52,7 +52,7 @@ unfolding byHints
 returns-2 c =
     let contour = c .before .before .before .before .before in
     let goal = contour .before .before in
-    let hints = held (goal .before .before .before .before .before .before .before .before .before .args .hints) in
+    let hints = rankedHeld (goal .before .before .before .before .before .before .before .before .before .args .hints) in
     rw (ne-eqb (length hints) 0 (some (goal .before)), sym (goal .goal-contour .ensures) ∙ contour .contour .given .1)
     (put-refused _ (c .before .before .refuse .ensures))
 
@@ -66,7 +66,7 @@ returns-3 c =
     let root = found .before in
     let contour = root .before .before in
     let goal = contour .before .before in
-    let hints = held (goal .before .before .before .before .before .before .before .before .before .args .hints) in
+    let hints = rankedHeld (goal .before .before .before .before .before .before .before .before .before .args .hints) in
     rw (
       ne-eqb (length hints) 0 (some (goal .before)),
       sym (goal .goal-contour .ensures) ∙ contour .contour2 .given .1,

@@ -1,6 +1,6 @@
 -- `asking::beside::by_number` meets its contract: 2 stays, all else is 1.
 -- Assumes nothing.
-use borrow.Author.Tests.{ne-eqb}
+use borrow.Author.Tests.{eq-eqb, ne-eqb}
 use borrow.Author.Needs.{needs}
 use Rattle.asking.proofs.beside.by_number.Statement.{statement}
 use Rattle.asking.proofs.beside.by_number.Tie as tie
@@ -12,10 +12,10 @@ enum-known-found : tie.Need-enum-known-found
 enum-known-found c = search needs
 
 returns : tie.Need-returns
-returns c = search needs
+returns c = rw (c .before .before .found .given .1, eq-eqb _ _ (c .if1 .taken))
 
 returns-2 : tie.Need-returns-2
-returns-2 c = search needs
+returns-2 c = rw (c .enum-told .given .1)
 
 returns-3 : tie.Need-returns-3
 returns-3 c = rw (c .before .before .found .given .1, ne-eqb _ _ (c .if1 .left))

@@ -4,7 +4,7 @@ use Prim.Native.Nat.{_+_, _*_}
 use native.Mathlib.Omega.{arith}
 use lib.ListN.{List·getD-eq-default}
 use lib.Ieee
-use Rattle.floats.specs.Size.{nought}
+use Rattle.floats.specs.Constants.{nought}
 use borrow.Author.Needs.{needs}
 use Rattle.boxing.proofs.boxes.box_at.Statement.{statement}
 use Rattle.boxing.proofs.boxes.box_at.Tie as tie

@@ -6,15 +6,15 @@ use native.Mathlib.Omega.{arith}
 use borrow.Author.Needs.{needs}
 use lib.ListN.{length, length-map, drop}
 use Rattle.floats.proofs.Tests.{found-true, found-false}
-use Rattle.ranking.specs.Hints.{held}
+use Rattle.ranking.specs.Hints.{rankedHeld}
 use Rattle.ranking.proofs.Held.{past}
-use Rattle.choosing.specs.Roots.{below}
+use Rattle.choosing.specs.Roots.{countBelow}
 use Rattle.choosing.proofs.Counts.{held-in, held-from, below-here, below-next, below-end}
 use Rattle.choosing.proofs.roots.count_below.Statement.{statement}
 use Rattle.choosing.proofs.roots.count_below.Tie as tie
 
 abbrev Inv-loop : tie.InvT-loop
-Inv-loop contour hints n i₀ i = (i ≤ n) × (i + below contour (drop i (held hints)) ≡ below contour (held hints))
+Inv-loop contour hints n i₀ i = (i ≤ n) × (i + countBelow contour (drop i (rankedHeld hints)) ≡ countBelow contour (rankedHeld hints))
 
 abbrev μ-loop : tie.MeasureT-loop
 μ-loop contour hints n i₀ i = n - i
@@ -49,7 +49,7 @@ returns c =
     let i = l .loop .i in
     let here = held-from (a .t1) i past (omega (arith, l .before .len .ensures)) in
     let stops = found-false (c .before .is-below .ensures) (c .if1 .taken) in
-    omega (arith, below-here (a .contour) (held (a .t1)) i _ here stops)
+    omega (arith, below-here (a .contour) (rankedHeld (a .t1)) i _ here stops)
 
 add-i : tie.Need-add-i Inv-loop μ-loop
 add-i c = omega arith
@@ -64,13 +64,13 @@ loop-again c =
     let i = l .loop .i in
     let here = held-from (a .t1) i past (omega (arith, l .before .len .ensures)) in
     let counts = found-true (c .before .is-below .ensures) (c .if1 .left) in
-    (omega arith, omega (arith, below-next (a .contour) (held (a .t1)) i _ here counts))
+    (omega arith, omega (arith, below-next (a .contour) (rankedHeld (a .t1)) i _ here counts))
 
 returns-2 : tie.Need-returns-2 Inv-loop μ-loop
 returns-2 c =
     let l = c .before in
     let a = l .before .before .args in
-    omega (arith, below-end (a .contour) (held (a .t1)) (l .loop .i) (omega (arith, l .before .len .ensures)))
+    omega (arith, below-end (a .contour) (rankedHeld (a .t1)) (l .loop .i) (omega (arith, l .before .len .ensures)))
 
 pub count-below-spec : {M : Type 1} → statement M
 count-below-spec =

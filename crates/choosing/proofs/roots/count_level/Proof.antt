@@ -5,16 +5,16 @@ use mathlib.Core.Path.{_≡_, sym, _∙_}
 use native.Mathlib.Omega.{arith}
 use borrow.Author.Needs.{needs}
 use lib.ListN.{length, length-map, drop}
-use Rattle.ranking.specs.Hints.{held}
+use Rattle.ranking.specs.Hints.{rankedHeld}
 use Rattle.ranking.proofs.Held.{past}
-use Rattle.choosing.specs.Roots.{level}
+use Rattle.choosing.specs.Roots.{countLevel}
 use Rattle.choosing.proofs.Counts.{held-in, held-from, level-here, level-next, level-end}
 use Rattle.choosing.proofs.roots.count_level.Statement.{statement}
 use Rattle.choosing.proofs.roots.count_level.Tie as tie
 
 abbrev Inv-loop : tie.InvT-loop
 Inv-loop contour from hints n i₀ i =
-    (from ≤ i) × (i ≤ n) × (i - from + level contour (drop i (held hints)) ≡ level contour (drop from (held hints)))
+    (from ≤ i) × (i ≤ n) × (i - from + countLevel contour (drop i (rankedHeld hints)) ≡ countLevel contour (drop from (rankedHeld hints)))
 
 abbrev μ-loop : tie.MeasureT-loop
 μ-loop contour from hints n i₀ i = n - i
@@ -52,7 +52,7 @@ returns c =
     let i = l .loop .i in
     let here = held-from (a .t1) i past (omega (arith, l .before .len .ensures)) in
     let stops = sym (c .before .is-below .ensures) ∙ c .if1 .taken in
-    omega (arith, level-here (a .contour) (held (a .t1)) i _ here stops)
+    omega (arith, level-here (a .contour) (rankedHeld (a .t1)) i _ here stops)
 
 add-i : tie.Need-add-i Inv-loop μ-loop
 add-i c = omega arith
@@ -67,7 +67,7 @@ loop-again c =
     let i = l .loop .i in
     let here = held-from (a .t1) i past (omega (arith, l .before .len .ensures)) in
     let counts = sym (c .before .is-below .ensures) ∙ c .if1 .left in
-    (omega arith, omega arith, omega (arith, level-next (a .contour) (held (a .t1)) i _ here counts))
+    (omega arith, omega arith, omega (arith, level-next (a .contour) (rankedHeld (a .t1)) i _ here counts))
 
 sub-result-2 : tie.Need-sub-result-2 Inv-loop μ-loop
 sub-result-2 c = omega arith
@@ -76,7 +76,7 @@ returns-2 : tie.Need-returns-2 Inv-loop μ-loop
 returns-2 c =
     let l = c .before in
     let a = l .before .before .args in
-    omega (arith, level-end (a .contour) (held (a .t1)) (l .loop .i) (omega (arith, l .before .len .ensures)))
+    omega (arith, level-end (a .contour) (rankedHeld (a .t1)) (l .loop .i) (omega (arith, l .before .len .ensures)))
 
 pub count-level-spec : {M : Type 1} → statement M
 count-level-spec =

@@ -5,7 +5,7 @@ use mathlib.Core.Path.{_≡_}
 use native.Mathlib.Omega.{arith}
 use borrow.Author.Needs.{needs}
 use lib.ListN.{length, length-map, length-drop, drop, getD}
-use Rattle.ranking.specs.Hints.{held}
+use Rattle.ranking.specs.Hints.{rankedHeld}
 use Rattle.ranking.proofs.Held.{past}
 use Rattle.choosing.proofs.Counts.{held-in, held-from, level-in, no-root, root-found}
 use Rattle.choosing.proofs.roots.first_root.Statement.{statement}
@@ -26,7 +26,7 @@ returns c =
     let n = c .before .before in
     let a = n .before .args in
     let at = c .before .count-below in
-    no-root (a .goal) (held (a .t1)) (at .result) (at .ensures) (omega (arith, n .len .ensures))
+    no-root (a .goal) (rankedHeld (a .t1)) (at .result) (at .ensures) (omega (arith, n .len .ensures))
 
 mul-h : tie.Need-mul-h
 mul-h c =
@@ -49,9 +49,9 @@ add-t14 c =
     let at = c .before .before .before .count-below .result in
     let n = c .before .before .before .before in
     let list = n .before .args .t1 in
-    let behind = drop (at + 1) (held list) in
+    let behind = drop (at + 1) (rankedHeld list) in
     let few : c .count-level .result ≤ length behind = rw (c .count-level .ensures) (level-in _ behind) in
-    omega (arith, n .len .ensures, held-in list (long (n .before)), length-drop (at + 1) (held list))
+    omega (arith, n .len .ensures, held-in list (long (n .before)), length-drop (at + 1) (rankedHeld list))
 
 returns-2 : tie.Need-returns-2
 returns-2 c =
@@ -60,7 +60,7 @@ returns-2 c =
     let a = n .before .args in
     let here = held-from (a .t1) (at .result) past (omega (arith, n .len .ensures)) in
     rw (c .count-level .ensures)
-    (root-found (a .goal) (held (a .t1)) (at .result) (at .ensures) (getD (a .t1 .all) (at .result) past) here)
+    (root-found (a .goal) (rankedHeld (a .t1)) (at .result) (at .ensures) (getD (a .t1 .all) (at .result) past) here)
 
 pub first-root-spec : {M : Type 1} → statement M
 first-root-spec =

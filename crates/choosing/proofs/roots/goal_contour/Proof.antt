@@ -3,7 +3,7 @@
 use mathlib.Core.Path.{_≡_, sym, _∙_}
 use borrow.Author.Needs.{needs}
 use Rattle.shapes.specs.Leg.{placeOf}
-use Rattle.shapes.specs.Vector.{difference}
+use Rattle.shapes.specs.Vector.{vectorDifference}
 use Rattle.courses.specs.Norm.{normOf}
 use Rattle.choosing.specs.Roots.{goalContour}
 use Rattle.choosing.proofs.roots.goal_contour.Statement.{statement}
@@ -30,7 +30,7 @@ enum-told c = search needs
 -- The distance from the start to the goal.
 long-found : (c : tie.After-norm) →
     let leg = c .before .before .before .before .before .before .before .args .trip .leg in
-    normOf (difference (placeOf (leg .end)) (placeOf (leg .start))) ≡ c .norm .result
+    normOf (vectorDifference (placeOf (leg .end)) (placeOf (leg .start))) ≡ c .norm .result
 long-found c =
     let way = c .before in
     rw (← way .before .before .place .ensures, ← way .before .place2 .ensures, ← way .minus .ensures) (sym (c .norm .ensures))

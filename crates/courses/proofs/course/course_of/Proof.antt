@@ -5,10 +5,10 @@ use mathlib.Core.Bool.{true}
 use borrow.Author.Needs.{needs}
 use borrow.Author.Tests.{not-true, not-false}
 use lib.Ieee.{lt}
-use Rattle.floats.specs.Domain.{still}
+use Rattle.floats.specs.Constants.{hundredMillionth}
 use Rattle.root.specs.declared.nearest.Root.the-variants.{Of}
 use Rattle.shapes.specs.Leg.{placeOf}
-use Rattle.shapes.specs.Vector.{difference}
+use Rattle.shapes.specs.Vector.{vectorDifference}
 use Rattle.courses.specs.Norm.{normOf}
 use Rattle.courses.specs.Course.{courseOf}
 use Rattle.courses.proofs.course.course_of.Statement.{statement}
@@ -34,7 +34,7 @@ enum-told c = search needs
 
 way-found : (c : tie.After-minus) →
     let leg = c .before .before .before .before .before .args .leg in
-    difference (placeOf (leg .end)) (placeOf (leg .start)) ≡ c .minus .result
+    vectorDifference (placeOf (leg .end)) (placeOf (leg .start)) ≡ c .minus .result
 way-found c = rw (← c .before .before .place .ensures, ← c .before .place2 .ensures) (sym (c .minus .ensures))
 
 returns : tie.Need-returns
@@ -45,7 +45,7 @@ returns c =
 
 length-found : (c : tie.After-long) →
     let leg = c .before .before .before .before .before .before .before .before .args .leg in
-    normOf (difference (placeOf (leg .end)) (placeOf (leg .start))) ≡ Of (c .long .given .0 .0)
+    normOf (vectorDifference (placeOf (leg .end)) (placeOf (leg .start))) ≡ Of (c .long .given .0 .0)
 length-found c =
     let root = c .before .before in
     rw (way-found (root .before)) (sym (root .norm .ensures) ∙ c .long .given .1)
@@ -54,7 +54,7 @@ returns-2 : tie.Need-returns-2
 unfolding courseOf
 returns-2 c =
     let long = c .before .before in
-    rw (length-found long, not-true (lt still (long .long .given .0 .0)) (c .if1 .taken))
+    rw (length-found long, not-true (lt hundredMillionth (long .long .given .0 .0)) (c .if1 .taken))
 
 run-of-requires : tie.Need-run-of-requires
 run-of-requires c κs = search needs
@@ -65,8 +65,8 @@ enum-known-ran c = search needs
 enum-told-2 : tie.Need-enum-told-2
 enum-told-2 c = search needs
 
-is-long : (c : tie.Else1) → lt still (c .before .before .long .given .0 .0) ≡ true
-is-long c = not-false (lt still (c .before .before .long .given .0 .0)) (c .if1 .left)
+is-long : (c : tie.Else1) → lt hundredMillionth (c .before .before .long .given .0 .0) ≡ true
+is-long c = not-false (lt hundredMillionth (c .before .before .long .given .0 .0)) (c .if1 .left)
 
 returns-3 : tie.Need-returns-3
 unfolding courseOf

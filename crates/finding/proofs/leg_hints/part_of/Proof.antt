@@ -6,7 +6,7 @@ use borrow.Author.Needs.{needs}
 use borrow.Author.Tests.{not-true, not-false}
 use lib.Signed.{ltZ}
 use lib.Ieee.{le, ofBits}
-use Rattle.floats.specs.Size.{nought}
+use Rattle.floats.specs.Constants.{nought}
 use Rattle.finding.specs.LegHints.{partOf}
 use Rattle.finding.proofs.leg_hints.part_of.Statement.{statement}
 use Rattle.finding.proofs.leg_hints.part_of.Tie as tie

@@ -5,7 +5,7 @@ use mathlib.Core.Bool.{true}
 use borrow.Author.Needs.{needs}
 use borrow.Author.Tests.{not-true, not-false}
 use lib.Ieee.{le, ofBits}
-use Rattle.floats.specs.Size.{nought}
+use Rattle.floats.specs.Constants.{nought}
 use Rattle.following.specs.Follow.{followed}
 use Rattle.following.proofs.follow.follow_from.Statement.{statement}
 use Rattle.following.proofs.follow.follow_from.Tie as tie

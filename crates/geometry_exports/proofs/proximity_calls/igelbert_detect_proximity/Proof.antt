@@ -2,21 +2,21 @@
 -- Assumes nothing.
 use mathlib.Core.Path.{_≡_}
 use borrow.Author.Needs.{needs}
-use Rattle.taking.specs.Plain.{legOf}
+use Rattle.taking.specs.Plain.{plainLeg}
 use Rattle.taking.proofs.ReadLegs.{leg-read}
 use Rattle.geometry_exports.proofs.proximity_calls.igelbert_detect_proximity.Statement.{statement}
 use Rattle.geometry_exports.proofs.proximity_calls.igelbert_detect_proximity.Tie as tie
 
 agent : (c : tie.After-leg-of) →
     let a = c .before .before .args in
-    c .leg-of .result ≡ legOf (a .t0) (a .x0) (a .y0) (a .t1) (a .x1) (a .y1)
+    c .leg-of .result ≡ plainLeg (a .t0) (a .x0) (a .y0) (a .t1) (a .x1) (a .y1)
 agent c =
     let s = c .before .before in
     leg-read (s .args .t0) (s .args .t1) _ _ _ _ (s .fits .t0) (s .fits .t1) (c .leg-of .ensures)
 
 obstacle : (c : tie.After-leg-of2) →
     let a = c .before .before .before .args in
-    c .leg-of2 .result ≡ legOf (a .t2) (a .x2) (a .y2) (a .t3) (a .x3) (a .y3)
+    c .leg-of2 .result ≡ plainLeg (a .t2) (a .x2) (a .y2) (a .t3) (a .x3) (a .y3)
 obstacle c =
     let s = c .before .before .before in
     leg-read (s .args .t2) (s .args .t3) _ _ _ _ (s .fits .t2) (s .fits .t3) (c .leg-of2 .ensures)

@@ -9,7 +9,7 @@ use borrow.Author.Tests.{eq-eqb, ne-eqb}
 use lib.ListN.{length, take, drop, replicate, length-set, length-take, length-map}
 use lib.Seq.{length-take-le, getD-take, take-length}
 use Rattle.ranking.specs.declared.order.RankedHint.{RankedHint}
-use Rattle.ranking.specs.Hints.{held}
+use Rattle.ranking.specs.Hints.{rankedHeld}
 use Rattle.lending.specs.Lent.{hintWords, allWords, hintsOutcome}
 use Rattle.hint_handing.proofs.HintWords.{words-begin, words-next}
 use Rattle.hint_handing.proofs.hint_words.give_hints.Statement.{statement}
@@ -17,7 +17,7 @@ use Rattle.hint_handing.proofs.hint_words.give_hints.Tie as tie
 
 abbrev Inv-loop : tie.InvT-loop
 Inv-loop out list refused n room₀ i₀ room i =
-    (i ≤ n) × ((length room ≡ 385) × (take (1 + 6 * i) room ≡ n ∷ allWords (take i (held list))))
+    (i ≤ n) × ((length room ≡ 385) × (take (1 + 6 * i) room ≡ n ∷ allWords (take i (rankedHeld list))))
 
 abbrev μ-loop : tie.MeasureT-loop
 μ-loop out list refused n room₀ i₀ room i = n - i
@@ -28,7 +28,7 @@ places c = simp length-map at (c .good .0 .1 .1 .1 .1 .0 .1 .0 .1)
 
 -- so there are 64 hints at most.
 at-most-64 : (c : tie.After-len Inv-loop μ-loop) → c .len .result ≤ 64
-unfolding held
+unfolding rankedHeld
 at-most-64 c =
     let s = c .before .before .before in
     let list = s .args .t1 in
@@ -56,7 +56,7 @@ loop-holds c =
     let room : List ℕ = replicate 385 0 in
     let long : length room ≡ 385 = refl in (
       omega arith,
-      (length-set room 0 (c .len .result) ∙ long, words-begin room (c .len .result) (held list) (omega arith)),
+      (length-set room 0 (c .len .result) ∙ long, words-begin room (c .len .result) (rankedHeld list) (omega arith)),
     )
 
 mul-h : tie.Need-mul-h Inv-loop μ-loop
@@ -84,7 +84,7 @@ loop-less : tie.Need-loop-less Inv-loop μ-loop
 loop-less c = omega arith
 
 loop-again : tie.Need-loop-again Inv-loop μ-loop
-unfolding held
+unfolding rankedHeld
 loop-again c =
     let put = c .before .put-hint in
     let l = c .before .before .before .before .before .loop in
@@ -92,7 +92,7 @@ loop-again c =
     let list = s .before .before .before .args .t1 in
     let n = s .len .result in
     let few = at-most-64 s in
-    let below : l .i < length (held list) = omega (arith, s .len .ensures) in (
+    let below : l .i < length (rankedHeld list) = omega (arith, s .len .ensures) in (
       omega arith,
       (
         c .room2 .given,
@@ -102,7 +102,7 @@ loop-again c =
             (λ (h : RankedHint). take (1 + 6 * l .i) (l .room) ++ (hintWords h ++ drop (1 + 6 * l .i + 6) (l .room)))
             (sym (getD-take (list .count) (list .all) (l .i) _ (omega (arith, length-take (list .count) (list .all)))))
             ) ∙
-            words-next (l .room) n (held list) (l .i) _ below (omega arith) (l .inv .1 .1),
+            words-next (l .room) n (rankedHeld list) (l .i) _ below (omega arith) (l .inv .1 .1),
       ),
     )
 
@@ -136,7 +136,7 @@ returns-2 c =
     let list = s .before .before .before .args .t1 in
     let n = s .len .result in
     let all : l .i ≡ n = omega arith in
-    let words : take (1 + 6 * n) (l .room) ≡ length (held list) ∷ allWords (held list) =
+    let words : take (1 + 6 * n) (l .room) ≡ length (rankedHeld list) ∷ allWords (rankedHeld list) =
     ap (λ (k : ℕ). take (1 + 6 * k) (l .room)) (sym all) ∙ l .inv .1 .1 ∙ rw (all, s .len .ensures, take-length) in
     rw (eq-eqb _ _ (s .before .if1 .left), ← words) (c .before .before .hand-over .ensures)
 

@@ -2,7 +2,7 @@
 -- Assumes nothing.
 use mathlib.Core.Path.{_≡_, sym, _∙_}
 use borrow.Author.Needs.{needs}
-use Rattle.shapes.specs.Vector.{difference, dotOf}
+use Rattle.shapes.specs.Vector.{vectorDifference, dotOf}
 use Rattle.hints.specs.Contour.{gradeOf}
 use Rattle.hints.proofs.contour.grade_of.Statement.{statement}
 use Rattle.hints.proofs.contour.grade_of.Tie as tie
@@ -40,7 +40,7 @@ enum-told-2 c = search needs
 
 reach-found : (c : tie.After-dot) →
     let a = c .before .before .args in
-    dotOf (difference (a .hint .place) (a .scale .from)) (a .scale .direction) ≡ c .dot .result
+    dotOf (vectorDifference (a .hint .place) (a .scale .from)) (a .scale .direction) ≡ c .dot .result
 reach-found c = rw (← c .before .minus .ensures) (sym (c .dot .ensures))
 
 returns-2 : tie.Need-returns-2

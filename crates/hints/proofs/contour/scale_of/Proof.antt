@@ -4,7 +4,7 @@ use mathlib.Core.Path.{_≡_, sym, _∙_}
 use borrow.Author.Needs.{needs}
 use Rattle.root.specs.declared.nearest.Root.the-variants.{Of}
 use Rattle.shapes.specs.Leg.{placeOf}
-use Rattle.shapes.specs.Vector.{difference}
+use Rattle.shapes.specs.Vector.{vectorDifference}
 use Rattle.courses.specs.Norm.{normOf}
 use Rattle.hints.specs.Contour.{scaleOf}
 use Rattle.hints.proofs.contour.scale_of.Statement.{statement}
@@ -30,7 +30,7 @@ enum-told c = search needs
 
 way-found : (c : tie.After-minus) →
     let leg = c .before .before .before .before .before .args .agent in
-    difference (placeOf (leg .end)) (placeOf (leg .start)) ≡ c .minus .result
+    vectorDifference (placeOf (leg .end)) (placeOf (leg .start)) ≡ c .minus .result
 way-found c = rw (← c .before .before .before .place .ensures, ← c .before .place2 .ensures) (sym (c .minus .ensures))
 
 returns : tie.Need-returns
@@ -41,7 +41,7 @@ returns c =
 
 length-found : (c : tie.After-long) →
     let leg = c .before .before .before .before .before .before .before .before .args .agent in
-    normOf (difference (placeOf (leg .end)) (placeOf (leg .start))) ≡ Of (c .long .given .0 .0)
+    normOf (vectorDifference (placeOf (leg .end)) (placeOf (leg .start))) ≡ Of (c .long .given .0 .0)
 length-found c =
     let root = c .before .before in
     rw (way-found (root .before)) (sym (root .norm .ensures) ∙ c .long .given .1)

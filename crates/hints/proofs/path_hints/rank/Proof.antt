@@ -9,7 +9,7 @@ use lib.Ieee.{nan}
 use lib.ListN.{length, drop, length-map, length-take}
 use Rattle.waits.specs.Hints.{held}
 use Rattle.waits.specs.declared.hint.WaitHint.{WaitHint}
-use Rattle.ranking.specs.Hints.{noHints}
+use Rattle.ranking.specs.Hints.{noRanked}
 use Rattle.hints.specs.Contour.{gradedOnto}
 use Rattle.hints.proofs.Walking.{hints-ranked, hint-ranked, hint-strays}
 use Rattle.hints.proofs.path_hints.rank.Statement.{statement}
@@ -17,7 +17,7 @@ use Rattle.hints.proofs.path_hints.rank.Tie as tie
 
 abbrev Inv-loop : tie.InvT-loop
 Inv-loop scale hints n list₀ i₀ list i =
-    gradedOnto scale list (drop i (held hints)) ≡ gradedOnto scale noHints (held hints)
+    gradedOnto scale list (drop i (held hints)) ≡ gradedOnto scale noRanked (held hints)
 
 abbrev μ-loop : tie.MeasureT-loop
 μ-loop scale hints n list₀ i₀ list i = n - i

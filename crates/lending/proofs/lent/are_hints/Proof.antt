@@ -9,7 +9,7 @@ use lib.ListN.{length, length-map}
 use Rattle.floats.proofs.Tests.{found-true, found-false}
 use Rattle.lists.specs.Listed.{listedTo, every}
 use Rattle.lists.proofs.Listed.{every-done, every-fails, every-passes}
-use Rattle.ranking.specs.Hints.{held}
+use Rattle.ranking.specs.Hints.{rankedHeld}
 use Rattle.lending.specs.Lent.{isHint, areHints}
 use Rattle.ranking.proofs.Held.{at, held-listed}
 use Rattle.lending.proofs.lent.are_hints.Statement.{statement}
@@ -17,7 +17,7 @@ use Rattle.lending.proofs.lent.are_hints.Tie as tie
 
 abbrev Inv-loop : tie.InvT-loop
 Inv-loop obstacles list n i₀ i =
-    every (isHint obstacles) (listedTo (at list) (list .count) i) ≡ every (isHint obstacles) (held list)
+    every (isHint obstacles) (listedTo (at list) (list .count) i) ≡ every (isHint obstacles) (rankedHeld list)
 
 abbrev μ-loop : tie.MeasureT-loop
 μ-loop obstacles list n i₀ i = n - i

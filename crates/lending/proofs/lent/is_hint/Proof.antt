@@ -6,12 +6,12 @@ use Rattle.lending.specs.Lent.{isHint}
 use Rattle.lending.proofs.lent.is_hint.Statement.{statement}
 use Rattle.lending.proofs.lent.is_hint.Tie as tie
 
-is-in-reach-requires : tie.Need-is-in-reach-requires
-is-in-reach-requires c κs = search needs
+is-exact-requires : tie.Need-is-exact-requires
+is-exact-requires c κs = search needs
 
 returns : tie.Need-returns
 unfolding isHint
-returns c = rw (found-false (c .before .is-in-reach .ensures) (c .if1 .taken))
+returns c = rw (found-false (c .before .is-exact .ensures) (c .if1 .taken))
 
 is-finite-requires : tie.Need-is-finite-requires
 is-finite-requires c κs = search needs
@@ -21,7 +21,7 @@ unfolding isHint
 returns-2 c =
     let first = c .before .before in
     rw (
-      found-true (first .before .is-in-reach .ensures) (first .if1 .left),
+      found-true (first .before .is-exact .ensures) (first .if1 .left),
       found-false (c .before .is-finite .ensures) (c .if2 .taken),
     )
 
@@ -34,13 +34,13 @@ returns-3 c =
     let second = c .before .before in
     let first = second .before .before in
     rw (
-      found-true (first .before .is-in-reach .ensures) (first .if1 .left),
+      found-true (first .before .is-exact .ensures) (first .if1 .left),
       found-true (second .before .is-finite .ensures) (second .if2 .left),
       found-false (c .before .is-placed .ensures) (c .if3 .taken),
     )
 
-is-in-reach-requires-2 : tie.Need-is-in-reach-requires-2
-is-in-reach-requires-2 c κs = search needs
+is-exact-requires-2 : tie.Need-is-exact-requires-2
+is-exact-requires-2 c κs = search needs
 
 returns-4 : tie.Need-returns-4
 unfolding isHint
@@ -49,10 +49,10 @@ returns-4 c =
     let second = third .before .before in
     let first = second .before .before in
     rw (
-      found-true (first .before .is-in-reach .ensures) (first .if1 .left),
+      found-true (first .before .is-exact .ensures) (first .if1 .left),
       found-true (second .before .is-finite .ensures) (second .if2 .left),
       found-true (third .before .is-placed .ensures) (third .if3 .left),
-      found-false (c .before .is-in-reach2 .ensures) (c .if4 .taken),
+      found-false (c .before .is-exact2 .ensures) (c .if4 .taken),
     )
 
 returns-5 : tie.Need-returns-5
@@ -63,22 +63,22 @@ returns-5 c =
     let second = third .before .before in
     let first = second .before .before in
     rw (
-      found-true (first .before .is-in-reach .ensures) (first .if1 .left),
+      found-true (first .before .is-exact .ensures) (first .if1 .left),
       found-true (second .before .is-finite .ensures) (second .if2 .left),
       found-true (third .before .is-placed .ensures) (third .if3 .left),
-      found-true (fourth .before .is-in-reach2 .ensures) (fourth .if4 .left),
+      found-true (fourth .before .is-exact2 .ensures) (fourth .if4 .left),
     )
 
 pub is-hint-spec : {M : Type 1} → statement M
 is-hint-spec =
     tie.close
     (tie.spec
-    is-in-reach-requires
+    is-exact-requires
     returns
     is-finite-requires
     returns-2
     is-placed-requires
     returns-3
-    is-in-reach-requires-2
+    is-exact-requires-2
     returns-4
     returns-5)

@@ -10,7 +10,7 @@ use borrow.Author.Tests.{le-leb, lt-leb}
 use Rattle.lists.specs.Listed.{listed, listedTo}
 use Rattle.lists.proofs.Listed.{listed-done, listed-next}
 use Rattle.ranking.specs.declared.order.RankedHint.{RankedHint}
-use Rattle.ranking.specs.Hints.{noHints}
+use Rattle.ranking.specs.Hints.{noRanked}
 use Rattle.lending.specs.Lent.{hintIn, withAll, readHints}
 use Rattle.lending.proofs.lent.read.Statement.{statement}
 use Rattle.lending.proofs.lent.read.Tie as tie
@@ -21,7 +21,7 @@ hintOf words i = hintIn words (1 + 6 * i)
 
 abbrev Inv-loop : tie.InvT-loop
 Inv-loop words n count list₀ i₀ list i =
-    withAll list (listedTo (hintOf words) count i) ≡ withAll noHints (listed (hintOf words) count 0)
+    withAll list (listedTo (hintOf words) count i) ≡ withAll noRanked (listed (hintOf words) count 0)
 
 abbrev μ-loop : tie.MeasureT-loop
 μ-loop words n count list₀ i₀ list i = count - i

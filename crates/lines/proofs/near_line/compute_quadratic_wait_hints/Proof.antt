@@ -3,7 +3,7 @@
 use mathlib.Core.Path.{_≡_, sym, _∙_}
 use borrow.Author.Needs.{needs}
 use lib.Ieee.{ofBits}
-use Rattle.shapes.specs.Vector.{difference, divided}
+use Rattle.shapes.specs.Vector.{vectorDifference, divided}
 use Rattle.lines.specs.NearLine.{acrossQuadratic, nearLine}
 use Rattle.lines.proofs.near_line.compute_quadratic_wait_hints.Statement.{statement}
 use Rattle.lines.proofs.near_line.compute_quadratic_wait_hints.Tie as tie
@@ -19,12 +19,12 @@ across-quadratic-requires c κs = search needs
 
 velocity-found : (c : tie.After-over) →
     let a = c .before .before .args in
-    divided (difference (a .pf) (a .p0)) (a .dt) ≡ c .over .result
+    divided (vectorDifference (a .pf) (a .p0)) (a .dt) ≡ c .over .result
 velocity-found c = rw (← c .before .minus .ensures) (sym (c .over .ensures))
 
 quadratic-found : (c : tie.After-across-quadratic) →
     let a = c .before .before .before .args in
-    let v = divided (difference (a .pf) (a .p0)) (a .dt) in
+    let v = divided (vectorDifference (a .pf) (a .p0)) (a .dt) in
     acrossQuadratic (a .q) (a .u) (a .p0) v (a .limit) ≡ c .across-quadratic .result
 quadratic-found c = rw (velocity-found (c .before)) (sym (c .across-quadratic .ensures))
 

@@ -5,7 +5,7 @@ use mathlib.Core.Bool.{Bool, _&&_}
 use borrow.Author.Needs.{needs}
 use borrow.Author.Tests.{not-true, not-false}
 use lib.Ieee.{binary64, div, lt, ofBits}
-use Rattle.floats.specs.Size.{nought}
+use Rattle.floats.specs.Constants.{nought}
 use Rattle.lines.specs.NearLine.{outlasting}
 use Rattle.lines.proofs.near_line.outlasts.Statement.{statement}
 use Rattle.lines.proofs.near_line.outlasts.Tie as tie

@@ -5,9 +5,9 @@ use mathlib.Core.Bool.{Bool}
 use borrow.Author.Needs.{needs}
 use lib.Ieee
 use lib.Ieee.{Float, ofBits}
-use Rattle.floats.specs.Size.{nought}
+use Rattle.floats.specs.Constants.{nought}
 use Rattle.floats.specs.Quadratic.{radicand}
-use Rattle.floats.specs.Domain.{still}
+use Rattle.floats.specs.Constants.{hundredMillionth}
 use Rattle.root.specs.Root.{rootOf}
 use Rattle.root.specs.declared.nearest.Root.{Root}
 use Rattle.lines.specs.Stationary.{stationaryQuadratic, stationaryProximity}
@@ -20,7 +20,7 @@ stationary-quadratic-requires : tie.Need-stationary-quadratic-requires
 stationary-quadratic-requires c κs = search needs
 
 abbrev moves : Quadratic → Bool
-moves q = Ieee.le still (q .a)
+moves q = Ieee.le hundredMillionth (q .a)
 
 abbrev inner : Quadratic → Float
 inner q = radicand (q .a) (q .b) (q .c)

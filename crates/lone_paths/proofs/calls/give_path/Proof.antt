@@ -7,7 +7,7 @@ use borrow.Author.Needs.{needs}
 use Rattle.patterns.specs.Word.{wordOf}
 use Rattle.numbers.specs.declared.time.Duration.{Duration}
 use Rattle.patterns.proofs.ReadBack.{read-back}
-use Rattle.ranking.specs.Hints.{held}
+use Rattle.ranking.specs.Hints.{rankedHeld}
 use Rattle.obstacles.specs.Lent.{lentOf, obstaclesWith}
 use Rattle.obstacles.specs.Boxes.{boxIn}
 use Rattle.arrival_paths.specs.Path.{Sought, pathFor}
@@ -49,13 +49,13 @@ few c many pops hold e =
     let a = c .before .before .before .before .before .before .before .before .args in
     let lent = lentOf (a .starts .now) (a .numbers .now) (a .times .now) (a .xs .now) (a .ys .now) in
     let os = obstaclesWith lent (boxIn (a .boxes .now)) in
-    let path : Sought = pathFor (a .trip) os (held (a .hints)) (a .budget) (a .arrival) in
+    let path : Sought = pathFor (a .trip) os (rankedHeld (a .hints)) (a .budget) (a .arrival) in
     let found = sym (c .compute-safe-arrival-path .ensures .found) ∙ e in
     let is = path-is path many pops hold found in
     omega (
       arith,
       path-counts path many pops hold found,
-      path-short (a .trip) os (held (a .hints)) (a .budget) (a .arrival) (actionsIn path) pops hold is,
+      path-short (a .trip) os (rankedHeld (a .hints)) (a .budget) (a .arrival) (actionsIn path) pops hold is,
     )
 
 add-settle : tie.Need-add-settle

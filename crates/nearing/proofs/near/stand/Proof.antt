@@ -1,12 +1,12 @@
 -- `nearing::near::stand` meets its contract: the leg's two times at the place are the definition's.
 -- Assumes nothing.
 use mathlib.Core.Path.{refl}
-use Rattle.nearing.specs.Watched.{standing}
+use Rattle.nearing.specs.Watched.{standingLeg}
 use Rattle.nearing.proofs.near.stand.Statement.{statement}
 use Rattle.nearing.proofs.near.stand.Tie as tie
 
 returns : tie.Need-returns
-unfolding standing
+unfolding standingLeg
 returns c = refl
 
 pub stand-spec : {M : Type 1} → statement M

@@ -12,7 +12,7 @@ use Rattle.numbers.specs.declared.time.TimePoint.{TimePoint}
 use Rattle.shapes.specs.declared.waypoint.Leg.{Leg}
 use Rattle.shapes.specs.declared.waypoint.Waypoint.{Waypoint}
 use Rattle.obstacles.specs.Lent.{waypointIn, legIn}
-use Rattle.arrivals.specs.Search.{orElse, nextIn, next}
+use Rattle.arrivals.specs.Search.{orNext, nextIn, next}
 use Rattle.arrivals.specs.declared.next.Next.{Next}
 use Rattle.nearing.specs.Watched.{viewAt, watchedLegs}
 use Rattle.nearing.specs.Table.{endingOf}
@@ -65,7 +65,7 @@ turn : (c : tie.After-leg-next Inv-loop μ-loop) →
     let a = c .before .before .before .before .before .before .before .args in
     let go : ℕ → Next = walk (a .place) (a .limit) (a .times .now) (a .xs .now) (a .ys .now) (a .last) (a .candidate) in
     let leg : ℕ → Leg = legIn (a .times .now) (a .xs .now) (a .ys .now) in
-    orElse (c .leg-next .result) (λ _. go (l .i + 1)) ≡
+    orNext (c .leg-next .result) (λ _. go (l .i + 1)) ≡
     next (viewAt (a .place)) (a .candidate) (watchedLegs (a .limit) (listedTo leg (a .last) (a .from)))
 turn c =
     let more = c .before .before .loop-test .taken in

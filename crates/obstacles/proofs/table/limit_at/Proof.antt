@@ -4,7 +4,7 @@ use mathlib.Core.Path.{sym}
 use native.Mathlib.Omega.{arith}
 use lib.ListN.{List·getD-eq-default}
 use lib.Ieee
-use Rattle.floats.specs.Size.{nought}
+use Rattle.floats.specs.Constants.{nought}
 use borrow.Author.Needs.{needs}
 use Rattle.obstacles.proofs.table.limit_at.Statement.{statement}
 use Rattle.obstacles.proofs.table.limit_at.Tie as tie

@@ -4,7 +4,7 @@ use mathlib.Core.Path.{sym}
 use lib.ListN.{List·getD-eq-default}
 use lib.Ieee
 use lib.Ieee.{nan}
-use Rattle.floats.specs.Size.{nought}
+use Rattle.floats.specs.Constants.{nought}
 use Rattle.obstacles.proofs.Reading.{element-in}
 use borrow.Author.Needs.{needs}
 use Rattle.obstacles.proofs.table.number_at.Statement.{statement}

@@ -16,7 +16,7 @@ use lib.Dec.{leb}
 use Rattle.obstacles.specs.Obstacle.{Obstacle}
 use Rattle.obstacles.specs.Lent.{lentOf, obstaclesWith}
 use Rattle.obstacles.specs.Boxes.{boxIn}
-use Rattle.ranking.specs.Hints.{held}
+use Rattle.ranking.specs.Hints.{rankedHeld}
 use Rattle.chains.specs.declared.trial.Trial.{Trial}
 use Rattle.chains.specs.Recursive as R
 use Rattle.chains.specs.Recursive.{Tried, popped}
@@ -81,13 +81,13 @@ module _ (t : ℕ) where
         obstaclesWith (lentOf (a .starts .now) (a .numbers .now) (a .times .now) (a .xs .now) (a .ys .now)) (boxIn (a .boxes .now))
 
     abbrev up : ℕ → Option ℕ → Trial
-    up = toParent (s .args .trip) obstacles (held (s .args .hints))
+    up = toParent (s .args .trip) obstacles (rankedHeld (s .args .hints))
 
     abbrev start : ℕ → Trial
-    start = startsAt (s .args .trip) obstacles (held (s .args .hints))
+    start = startsAt (s .args .trip) obstacles (rankedHeld (s .args .hints))
 
     abbrev near : ℕ → ℕ → Bool
-    near = reaches (held (s .args .hints))
+    near = reaches (rankedHeld (s .args .hints))
 
     abbrev children : ℕ → ℕ → Tried
     children = R.tryChildren up start near (s .args .budget) (s .args .i)

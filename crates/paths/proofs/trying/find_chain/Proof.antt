@@ -5,7 +5,7 @@ use native.Mathlib.Omega.{arith}
 use borrow.Author.Needs.{needs}
 use borrow.Author.Tests.{le-leb, lt-leb, lt-ltb, le-ltb}
 use lib.ListN.{length}
-use Rattle.ranking.specs.Hints.{held}
+use Rattle.ranking.specs.Hints.{rankedHeld}
 use Rattle.chains.specs.Recursive.{recursiveSearch}
 use Rattle.paths.specs.Trying.{chainFrom}
 use Rattle.paths.proofs.trying.find_chain.Statement.{statement}
@@ -36,7 +36,7 @@ returns-2 c =
     let n = c .before .before in
     let f = n .before .before .first in
     let a = n .before .before .before .before .before .before .before .before .before .args in
-    let there : f .given .0 .0 < length (held (a .hints)) = omega (arith, n .len .ensures) in
+    let there : f .given .0 .0 < length (rankedHeld (a .hints)) = omega (arith, n .len .ensures) in
     rw (f .given .1, lt-ltb _ _ there) (c .try-roots .ensures)
 
 ended-requires-2 : tie.Need-ended-requires-2
@@ -48,7 +48,7 @@ returns-3 c =
     let n = c .before .before .before in
     let f = n .before .before .first in
     let a = n .before .before .before .before .before .before .before .before .before .args in
-    let past : length (held (a .hints)) ≤ f .given .0 .0 = omega (arith, n .len .ensures) in
+    let past : length (rankedHeld (a .hints)) ≤ f .given .0 .0 = omega (arith, n .len .ensures) in
     let spent : a .budget ≤ 0 = omega arith in
     rw (f .given .1, le-ltb _ _ past, le-leb (a .budget) 0 spent) (c .ended2 .ensures)
 
@@ -61,7 +61,7 @@ returns-4 c =
     let n = c .before .before .before in
     let f = n .before .before .first in
     let a = n .before .before .before .before .before .before .before .before .before .args in
-    let past : length (held (a .hints)) ≤ f .given .0 .0 = omega (arith, n .len .ensures) in
+    let past : length (rankedHeld (a .hints)) ≤ f .given .0 .0 = omega (arith, n .len .ensures) in
     let some-left : 0 < a .budget = omega arith in
     rw (f .given .1, le-ltb _ _ past, lt-leb (a .budget) 0 some-left) (c .ended3 .ensures)
 

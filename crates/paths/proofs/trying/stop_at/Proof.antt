@@ -3,7 +3,7 @@
 use mathlib.Core.Path.{ap, _∙_}
 use borrow.Author.Needs.{needs}
 use Rattle.ranking.specs.declared.order.RankedHint.{RankedHint}
-use Rattle.ways.specs.Travel.{waypointOf}
+use Rattle.ways.specs.Travel.{hintWaypoint}
 use Rattle.paths.specs.Trying.{stopIn}
 use Rattle.paths.proofs.trying.stop_at.Statement.{statement}
 use Rattle.paths.proofs.trying.stop_at.Tie as tie
@@ -16,7 +16,7 @@ waypoint-of-requires c κs = search needs
 
 returns : tie.Need-returns
 unfolding stopIn
-returns c = c .waypoint-of .ensures ∙ ap (λ (h : RankedHint). waypointOf (h .hint)) (c .before .before .at .ensures)
+returns c = c .waypoint-of .ensures ∙ ap (λ (h : RankedHint). hintWaypoint (h .hint)) (c .before .before .at .ensures)
 
 pub stop-at-spec : {M : Type 1} → statement M
 stop-at-spec = tie.close (tie.spec at-requires waypoint-of-requires returns)

@@ -9,10 +9,10 @@ use lib.ListN.{length}
 use Rattle.obstacles.specs.Obstacle.{Obstacle}
 use Rattle.obstacles.specs.Lent.{lentOf, obstaclesWith}
 use Rattle.obstacles.specs.Boxes.{boxIn}
-use Rattle.ranking.specs.Hints.{held}
+use Rattle.ranking.specs.Hints.{rankedHeld}
 use Rattle.ranking.specs.declared.order.RankedHint.{RankedHint}
 use Rattle.ways.specs.declared.trip.Trip.{Trip}
-use Rattle.chains.specs.Answer.{Answer}
+use Rattle.chains.specs.Answer.{Chained}
 use Rattle.chains.specs.Recursive.{tryRoots}
 use Rattle.chains.specs.Handed.{answered}
 use Rattle.chains.proofs.Steps.{at-end, root-answers, root-next}
@@ -22,14 +22,14 @@ use Rattle.paths.proofs.trying.try_roots.Statement.{statement}
 use Rattle.paths.proofs.trying.try_roots.Tie as tie
 
 -- The search from root r on, with the pops made.
-abbrev rootsFrom : Trip → List Obstacle → List RankedHint → ℕ → ℕ → ℕ → Answer
+abbrev rootsFrom : Trip → List Obstacle → List RankedHint → ℕ → ℕ → ℕ → Chained
 rootsFrom trip os hints budget r pops =
     tryRoots (toParent trip os hints) (startsAt trip os hints) (reaches hints) budget (length hints - r) r pops
 
 abbrev Inv-loop : tie.InvT-loop
 Inv-loop trip hints budget starts numbers times xs ys boxes from count root₀ pops₀ root pops =
     let os = obstaclesWith (lentOf starts numbers times xs ys) (boxIn boxes) in
-    rootsFrom trip os (held hints) budget root pops ≡ rootsFrom trip os (held hints) budget from 0
+    rootsFrom trip os (rankedHeld hints) budget root pops ≡ rootsFrom trip os (rankedHeld hints) budget from 0
 
 abbrev μ-loop : tie.MeasureT-loop
 μ-loop trip hints budget starts numbers times xs ys boxes from count root₀ pops₀ root pops = count - root
@@ -58,7 +58,7 @@ returns c =
     let n = c .before .before .before .before in
     let s = n .before .before .before .before .before .before in
     let a = s .args in
-    let hints = held (a .hints) in
+    let hints = rankedHeld (a .hints) in
     let there : l .root < length hints = omega (arith, n .len .ensures) in
     root-answers (toParent (a .trip) (obstacles s) hints) (startsAt (a .trip) (obstacles s) hints) (reaches hints) (a .budget)
     (length hints) (l .root) (l .pops) there (h .result) (h .ensures) (not-blocked (h .result .ending) (c .match .keys2)) ∙
@@ -77,7 +77,7 @@ loop-again c =
     let n = c .before .before .before .before .before in
     let s = n .before .before .before .before .before .before in
     let a = s .args in
-    let hints = held (a .hints) in
+    let hints = rankedHeld (a .hints) in
     let there : l .root < length hints = omega (arith, n .len .ensures) in
     sym
     (root-next (toParent (a .trip) (obstacles s) hints) (startsAt (a .trip) (obstacles s) hints) (reaches hints) (a .budget)
@@ -93,7 +93,7 @@ returns-2 c =
     let n = c .before .before .before in
     let s = n .before .before .before .before .before .before in
     let a = s .args in
-    let hints = held (a .hints) in
+    let hints = rankedHeld (a .hints) in
     let past : length hints ≤ l .root = omega (arith, n .len .ensures) in
     c .ended .ensures ∙
     ap answered

@@ -4,7 +4,7 @@ use mathlib.Core.Path.{sym, ap, _∙_}
 use mathlib.Core.List.{[]}
 use borrow.Author.Needs.{needs}
 use Rattle.chains.specs.declared.tried.Tried.{Tried}
-use Rattle.chains.specs.Handed.{onto}
+use Rattle.chains.specs.Handed.{ontoChain}
 use Rattle.chains.proofs.Links.{one-link}
 use Rattle.paths.specs.Trying.{startsAt}
 use Rattle.paths.proofs.trying.try_start.Statement.{statement}
@@ -43,7 +43,7 @@ returns c =
     let s = c .before .before .before .before in
     let a = s .before .before .before .before .before .before .before .args in
     rw (← s .before .stop-at .ensures, ← s .from-start .ensures, c .before .before .enum-told .given .1)
-    (c .with-link .ensures ∙ ap (λ (t : Tried). onto t (a .i)) (c .before .ended .ensures) ∙ sym (one-link [] (a .i) (a .pops)))
+    (c .with-link .ensures ∙ ap (λ (t : Tried). ontoChain t (a .i)) (c .before .ended .ensures) ∙ sym (one-link [] (a .i) (a .pops)))
 
 returns-2 : tie.Need-returns-2
 unfolding startsAt

@@ -5,7 +5,7 @@ use borrow.Author.Needs.{needs}
 use Rattle.patterns.proofs.ReadBack.{read-back}
 use Rattle.obstacles.specs.Lent.{lentOf}
 use Rattle.search.proofs.Words.{asked-words}
-use Rattle.taking.specs.Plain.{profileOf, waypointOf}
+use Rattle.taking.specs.Plain.{plainProfile, plainWaypoint}
 use Rattle.plan_exports.proofs.arrival_calls.igelbert_arrival_times.Statement.{statement}
 use Rattle.plan_exports.proofs.arrival_calls.igelbert_arrival_times.Tie as tie
 
@@ -31,7 +31,7 @@ returns c =
     let a = s .args in
     let lent = lentOf (a .starts .now) (a .numbers .now) (a .times .now) (a .xs .now) (a .ys .now) in
     let told = rw (read-back (a .t) (s .fits .t)) at (w .arrival-times .ensures) in
-    rw (asked-words (profileOf (a .footprint) (a .follow)) (waypointOf (a .t) (a .x) (a .y)) lent told refl)
+    rw (asked-words (plainProfile (a .footprint) (a .follow)) (plainWaypoint (a .t) (a .x) (a .y)) lent told refl)
     at (c .before .before .give-arrivals .ensures)
 
 pub igelbert-arrival-times-spec : {M : Type 1} → statement M

@@ -11,7 +11,7 @@ use Rattle.numbers.specs.declared.time.TimePoint.{TimePoint}
 use Rattle.patterns.proofs.ReadBack.{read, read-back}
 use Rattle.obstacles.specs.Lent.{lentOf, obstaclesWith}
 use Rattle.obstacles.specs.Boxes.{boxIn}
-use Rattle.ranking.specs.Hints.{held}
+use Rattle.ranking.specs.Hints.{rankedHeld}
 use Rattle.arrival_paths.specs.Path.{pathFor}
 use Rattle.arrival_paths.specs.Laid.{PutPath}
 use Rattle.planning.proofs.Keeping.{Kept, kept-start, kept-long, kept-long-actions, kept-end}
@@ -22,7 +22,7 @@ use Rattle.planning.proofs.linear_paths.put_paths.Tie as tie
 abbrev Inv-loop : tie.InvT-loop
 Inv-loop trip hints budget list count starts numbers times xs ys boxes paths₀ actions₀ found₀ row₀ i₀ paths actions found row i =
     let os = obstaclesWith (lentOf starts numbers times xs ys) (boxIn boxes) in
-    Kept trip os (held hints) budget list count paths₀ actions₀ i found row paths actions
+    Kept trip os (rankedHeld hints) budget list count paths₀ actions₀ i found row paths actions
 
 abbrev μ-loop : tie.MeasureT-loop
 μ-loop trip hints budget list count starts numbers times xs ys boxes paths₀ actions₀ found₀ row₀ i₀ paths actions found row i =
@@ -45,7 +45,7 @@ put : (c : tie.After-compute-safe-arrival-path Inv-loop μ-loop) →
     let t : TimePoint = record { 0 = getD (a .list .now) (l .loop .i) (pos 0) } in
     let call = c .compute-safe-arrival-path in
     let left = call .last .1 .1 .1 .1 .1 .1 .1 .1 .1 .1 .0 in
-    PutPath (pathFor (a .trip) os (held (a .hints)) (a .budget) t) (l .loop .actions) left (l .loop .row) (call .result)
+    PutPath (pathFor (a .trip) os (rankedHeld (a .hints)) (a .budget) t) (l .loop .actions) left (l .loop .row) (call .result)
 put c = rw (as-read c) at (c .compute-safe-arrival-path .ensures)
 
 loop-holds : tie.Need-loop-holds Inv-loop μ-loop

@@ -18,8 +18,8 @@ enum-known-meeting c = search needs
 enum-known-meeting-2 : tie.Need-enum-known-meeting-2
 enum-known-meeting-2 c = search needs
 
-standing-requires : tie.Need-standing-requires
-standing-requires c κs = search needs
+without-motion-requires : tie.Need-without-motion-requires
+without-motion-requires c κs = search needs
 
 met : (c : tie.After-meeting2) →
     let a = c .before .before .before .args in
@@ -28,10 +28,10 @@ met c = sym (c .before .before .meeting-from .ensures) ∙ c .meeting2 .given .1
 
 returns : tie.Need-returns
 unfolding longRange ofBits
-returns c = rw (met (c .before .before .before .before), c .before .if1 .taken) (c .standing .ensures)
+returns c = rw (met (c .before .before .before .before), c .before .if1 .taken) (c .without-motion .ensures)
 
-crossing-requires : tie.Need-crossing-requires
-crossing-requires c κs = search needs
+by-roots-requires : tie.Need-by-roots-requires
+by-roots-requires c κs = search needs
 
 returns-2 : tie.Need-returns-2
 unfolding longRange ofBits
@@ -39,7 +39,7 @@ returns-2 c = rw (sym (c .before .before .before .meeting-from .ensures) ∙ c .
 
 returns-3 : tie.Need-returns-3
 unfolding longRange ofBits
-returns-3 c = rw (met (c .before .before .before .before), c .before .if1 .left) (c .crossing .ensures)
+returns-3 c = rw (met (c .before .before .before .before), c .before .if1 .left) (c .by-roots .ensures)
 
 pub long-range-spec : {M : Type 1} → statement M
 long-range-spec =
@@ -48,8 +48,8 @@ long-range-spec =
     meeting-from-requires
     enum-known-meeting
     enum-known-meeting-2
-    standing-requires
+    without-motion-requires
     returns
-    crossing-requires
+    by-roots-requires
     returns-2
     returns-3)

@@ -3,7 +3,7 @@
 use mathlib.Core.Path.{_≡_, sym, _∙_}
 use borrow.Author.Needs.{needs}
 use lib.Ieee.{ofBits}
-use Rattle.floats.specs.Size.{nought}
+use Rattle.floats.specs.Constants.{nought}
 use Rattle.floats.specs.Compare.{largerOf}
 use Rattle.numbers.specs.Time.{instantAfterSeconds}
 use Rattle.proximity.specs.Proximity.{passage}

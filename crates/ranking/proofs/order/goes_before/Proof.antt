@@ -2,7 +2,7 @@
 -- Assumes nothing.
 use mathlib.Core.Path.{sym, _∙_}
 use borrow.Author.Needs.{needs}
-use Rattle.ranking.specs.Ranked.{before}
+use Rattle.ranking.specs.Ranked.{goesBefore}
 use Rattle.ranking.proofs.order.goes_before.Statement.{statement}
 use Rattle.ranking.proofs.order.goes_before.Tie as tie
 
@@ -10,14 +10,14 @@ is-below-requires : tie.Need-is-below-requires
 is-below-requires c κs = search needs
 
 returns : tie.Need-returns
-unfolding before
+unfolding goesBefore
 returns c = rw (sym (c .before .is-below .ensures) ∙ c .if1 .taken)
 
 is-below-requires-2 : tie.Need-is-below-requires-2
 is-below-requires-2 c κs = search needs
 
 returns-2 : tie.Need-returns-2
-unfolding before
+unfolding goesBefore
 returns-2 c =
     rw (
       sym (c .before .before .before .is-below .ensures) ∙ c .before .before .if1 .left,
@@ -25,7 +25,7 @@ returns-2 c =
     )
 
 returns-3 : tie.Need-returns-3
-unfolding before
+unfolding goesBefore
 returns-3 c =
     let second = c .before .before in
     rw (

@@ -2,7 +2,7 @@
 -- Assumes nothing.
 use borrow.Author.Needs.{needs}
 use Rattle.streams.specs.Format.{requestAt}
-use Rattle.requests.specs.Table.{legOf}
+use Rattle.requests.specs.Table.{requestLeg}
 use Rattle.requests.proofs.fields.leg_of.Statement.{statement}
 use Rattle.requests.proofs.fields.leg_of.Tie as tie
 
@@ -13,7 +13,7 @@ waypoint-at-requires-2 : tie.Need-waypoint-at-requires-2
 waypoint-at-requires-2 c κs = search needs
 
 returns : tie.Need-returns
-unfolding requestAt legOf
+unfolding requestAt requestLeg
 returns c = rw (c .before .waypoint-at .ensures, c .waypoint-at2 .ensures)
 
 pub leg-of-spec : {M : Type 1} → statement M

@@ -7,7 +7,7 @@ use borrow.Author.Needs.{needs}
 use lib.Pow.{pow-add}
 use lib.Ieee.{binary64, ofBits}
 use Rattle.root.specs.Digits.{Spells}
-use Rattle.root.specs.Root.{units}
+use Rattle.root.specs.Root.{leastUnits}
 use Rattle.root.proofs.Units.{units-is}
 use Rattle.root.proofs.Patterns.{low-value, high-value}
 use Rattle.root.proofs.nearest.digits_of.Statement.{statement}
@@ -20,7 +20,7 @@ returns : tie.Need-returns
 returns c =
     let b = c .before .before .args .b in
     let d = c .moved-up .ensures in
-    let is : b % 2 ^ 52 ≡ units (ofBits binary64 b) = omega (arith, units-is (ofBits binary64 b) b (low-value b (omega arith))) in
+    let is : b % 2 ^ 52 ≡ leastUnits (ofBits binary64 b) = omega (arith, units-is (ofBits binary64 b) b (low-value b (omega arith))) in
     (subst (λ (X : ℕ). Spells X (c .moved-up .result .m) (c .moved-up .result .j)) is (d .0), omega arith)
 
 add-t5 : tie.Need-add-t5
@@ -37,7 +37,7 @@ returns-2 c =
     let parts : k * 2 ^ 52 + q ≡ b = omega arith in
     let place : b / 2 ^ 52 + 51 ≡ k + 52 = omega arith in
     let v = high-value k q (omega arith) (omega arith) (omega arith) in
-    let is : units (ofBits binary64 b) ≡ q * 2 ^ k = rw parts at (units-is (ofBits binary64 (k * 2 ^ 52 + q)) (q * 2 ^ k) v) in
+    let is : leastUnits (ofBits binary64 b) ≡ q * 2 ^ k = rw parts at (units-is (ofBits binary64 (k * 2 ^ 52 + q)) (q * 2 ^ k) v) in
     (record { value = rw (is, place, pow-add 2 k 52) (omega arith); least = omega arith; most = omega arith }, omega arith)
 
 pub digits-of-spec : {M : Type 1} → statement M

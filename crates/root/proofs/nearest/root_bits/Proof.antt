@@ -6,15 +6,15 @@ use Prim.Native.Nat.{_*_, _%_, _^_}
 use native.Mathlib.Omega.{arith}
 use borrow.Author.Needs.{needs}
 use lib.Ieee.{binary64, ofBits}
-use Rattle.root.specs.Digits.{widened}
-use Rattle.root.specs.Root.{units}
+use Rattle.root.specs.Digits.{paired}
+use Rattle.root.specs.Root.{leastUnits}
 use Rattle.root.proofs.WholeRoot.{whole-small}
 use Rattle.root.proofs.Spelling.{pattern-is}
 use Rattle.root.proofs.nearest.root_bits.Statement.{statement}
 use Rattle.root.proofs.nearest.root_bits.Tie as tie
 
 -- One zero more stands behind the digits where their place is odd.
-given : (c : tie.Joined1) → c .if1 .a * 2 ^ 54 ≡ widened (c .before .digits-of .result .m) (c .before .digits-of .result .j)
+given : (c : tie.Joined1) → c .if1 .a * 2 ^ 54 ≡ paired (c .before .digits-of .result .m) (c .before .digits-of .result .j)
 given c =
     let j = c .before .digits-of .result .j in
     ⊎-elim
@@ -45,7 +45,7 @@ add-result-3 c = omega (arith, whole-small 54 (c .before .if1 .a * 2 ^ 54), c .w
 
 returns : tie.Need-returns
 returns c =
-    let X = units (ofBits binary64 (c .before .before .before .args .b)) in
+    let X = leastUnits (ofBits binary64 (c .before .before .before .args .b)) in
     let d = c .before .before .digits-of in
     rw (pattern-is X (d .result .m) (d .result .j) (d .ensures .0), c .whole-root .ensures, given (c .before))
 

@@ -11,7 +11,7 @@ use lib.Ieee.Compare.{differs-from-itself}
 use lib.Ieee.Positive.{positive}
 use Rattle.floats.proofs.NotANumber.{self-known}
 use Rattle.root.specs.Digits.{rootPattern}
-use Rattle.root.specs.Root.{units, IsRoot, rootOf}
+use Rattle.root.specs.Root.{leastUnits, IsRoot, rootOf}
 use Rattle.root.specs.declared.nearest.Root.{Root}
 use Rattle.root.specs.declared.nearest.Root.the-variants.{Of, Refused}
 use Rattle.root.proofs.Meets.{rooted, meets}
@@ -61,15 +61,15 @@ root-bits-requires : tie.Need-root-bits-requires
 root-bits-requires c κs = (some c, omega arith)
 
 -- The bits that come back are those of the root of x.
-bits-are : (c : tie.After-root-bits) → c .root-bits .result ≡ rootPattern (units (start (c .before) .args .x))
+bits-are : (c : tie.After-root-bits) → c .root-bits .result ≡ rootPattern (leastUnits (start (c .before) .args .x))
 bits-are c =
     c .root-bits .ensures
-    ∙ ap (λ (x : Float). rootPattern (units x)) (ofBits-toBits binary64 (start (c .before) .args .x) (held (start (c .before))))
+    ∙ ap (λ (x : Float). rootPattern (leastUnits x)) (ofBits-toBits binary64 (start (c .before) .args .x) (held (start (c .before))))
 
 float-from-bits-t5 : tie.Need-float-from-bits-t5
 float-from-bits-t5 c =
     let x = start (c .before) .args .x in
-    let b = rootPattern (units x) in
+    let b = rootPattern (leastUnits x) in
     let finite = rooted x (held (start (c .before))) (above (c .before)) .finite in
     rw (bits-are c, nanBits-above binary64 b, le-ltb 0x7ff0_0000_0000_0000 (b % 2 ^ 63) (omega arith)) tt
 

@@ -5,7 +5,7 @@ use mathlib.Core.Path.{sym, _∙_}
 use native.Mathlib.Omega.{arith}
 use borrow.Author.Needs.{needs}
 use Rattle.obstacles.specs.Lent.{lentOf, obstaclesOf}
-use Rattle.arrivals.specs.Search.{legsIn, moving}
+use Rattle.arrivals.specs.Search.{legsIn, obstaclesIn}
 use Rattle.nearing.specs.Watched.{viewAt, watchedAll, arrivalsAt}
 use Rattle.search.proofs.Keeping.{Kept, kept-start, kept-few, kept-room, kept-goes, kept-lists-goes}
 use Rattle.search.proofs.Keeping.{kept-ends, kept-lists, kept-refused}
@@ -21,7 +21,7 @@ Inv-loop p place starts numbers times xs ys list₀ candidate₀ listed₀ sweep
 -- that one is always left (RULES D3a), and there is no fuel that could run out.
 abbrev μ-loop : tie.MeasureT-loop
 μ-loop p place starts numbers times xs ys list₀ candidate₀ listed₀ sweeps₀ list candidate listed sweeps =
-    let os = watchedAll p (obstaclesOf (lentOf starts numbers times xs ys)) in legsIn os + moving os + 1 - sweeps
+    let os = watchedAll p (obstaclesOf (lentOf starts numbers times xs ys)) in legsIn os + obstaclesIn os + 1 - sweeps
 
 loop-holds : tie.Need-loop-holds Inv-loop μ-loop
 loop-holds c =

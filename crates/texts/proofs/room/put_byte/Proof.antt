@@ -5,7 +5,7 @@ use borrow.Author.Needs.{needs}
 use native.Mathlib.Omega.{arith}
 use lib.ListN.{length}
 use lib.Seq.{set-out}
-use Rattle.texts.specs.Room.{written}
+use Rattle.texts.specs.Room.{withBytes}
 use Rattle.texts.proofs.Putting.{reached-fits, reached-short}
 use Rattle.texts.proofs.room.put_byte.Statement.{statement}
 use Rattle.texts.proofs.room.put_byte.Tie as tie
@@ -20,7 +20,7 @@ same-length : tie.Need-same-length
 same-length c = search needs
 
 returns : tie.Need-returns
-unfolding written
+unfolding withBytes
 returns c =
     let a = c .before .args in
     record { room = refl; place = sym (reached-fits (length (a .out .now)) (a .at) 1 (omega arith)) }
@@ -29,7 +29,7 @@ add-result-2 : tie.Need-add-result-2
 add-result-2 c = search needs
 
 returns-2 : tie.Need-returns-2
-unfolding written
+unfolding withBytes
 returns-2 c =
     let a = c .before .args in
     record {

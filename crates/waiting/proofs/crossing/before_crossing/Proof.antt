@@ -6,9 +6,10 @@ use borrow.Author.Needs.{needs}
 use borrow.Author.Tests.{not-true, not-false}
 use lib.Ieee.{le, ofBits}
 use lib.Signed.{ltZ}
-use Rattle.floats.specs.Size.{nought}
-use Rattle.waits.specs.declared.hint.Wait.the-variants.{At, Nothing}
-use Rattle.waiting.specs.Parts.{reaching, agentAfter}
+use Rattle.numbers.specs.Time.{withInstant}
+use Rattle.floats.specs.Constants.{nought}
+use Rattle.waits.specs.declared.hint.Wait.the-variants.{At, Nothing, Refused}
+use Rattle.waiting.specs.Parts.{agentAfter}
 use Rattle.waiting.specs.Crossing.{beforeCrossing}
 use Rattle.waiting.proofs.crossing.before_crossing.Statement.{statement}
 use Rattle.waiting.proofs.crossing.before_crossing.Tie as tie
@@ -51,7 +52,7 @@ leaving-counts : (c : tie.After-plus-secs-f642) →
     let a = told .before .before .before .before .before .args in
     let until = told .freed .given .0 .0 in
     beforeCrossing (a .agent) (a .leg) (a .wait) (a .end) ≡
-    reaching (c .plus-secs-f642 .result) (λ arrival.
+    withInstant (Refused 7) (c .plus-secs-f642 .result) (λ arrival.
     cond (ltZ (until .0) (arrival .0)) Nothing (At (agentAfter (a .agent) (a .wait)) until))
 unfolding beforeCrossing
 leaving-counts c =

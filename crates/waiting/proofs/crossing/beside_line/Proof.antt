@@ -2,7 +2,7 @@
 -- Assumes nothing.
 use mathlib.Core.Path.{_≡_, sym}
 use borrow.Author.Needs.{needs}
-use Rattle.shapes.specs.Vector.{difference}
+use Rattle.shapes.specs.Vector.{vectorDifference}
 use Rattle.courses.specs.Norm.{directionOf}
 use Rattle.waiting.specs.Parts.{staying}
 use Rattle.waiting.specs.Crossing.{beforeCrossing, besideLine}
@@ -41,7 +41,7 @@ before-crossing-requires c κs = search needs
 
 way-found : (c : tie.After-try-normalize) →
     let leg = c .before .before .args .leg in
-    directionOf (difference (leg .to) (leg .from)) ≡ c .try-normalize .result
+    directionOf (vectorDifference (leg .to) (leg .from)) ≡ c .try-normalize .result
 way-found c = rw (← c .before .minus .ensures) (sym (c .try-normalize .ensures))
 
 returns : tie.Need-returns

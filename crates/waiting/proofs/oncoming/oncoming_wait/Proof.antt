@@ -3,7 +3,7 @@
 use borrow.Author.Needs.{needs}
 use borrow.Author.Tests.{not-true, not-false}
 use lib.Ieee.{le, ofBits}
-use Rattle.floats.specs.Size.{nought}
+use Rattle.floats.specs.Constants.{nought}
 use Rattle.waiting.specs.Parts.{agentAfter}
 use Rattle.waiting.specs.Oncoming.{oncomingWait}
 use Rattle.waiting.proofs.oncoming.oncoming_wait.Statement.{statement}

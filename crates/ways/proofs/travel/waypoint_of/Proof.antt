@@ -1,12 +1,12 @@
 -- `ways::travel::waypoint_of` meets its contract: the place and the time are the hint's.
 -- Assumes nothing.
 use mathlib.Core.Path.{refl}
-use Rattle.ways.specs.Travel.{waypointOf}
+use Rattle.ways.specs.Travel.{hintWaypoint}
 use Rattle.ways.proofs.travel.waypoint_of.Statement.{statement}
 use Rattle.ways.proofs.travel.waypoint_of.Tie as tie
 
 returns : tie.Need-returns
-unfolding waypointOf
+unfolding hintWaypoint
 returns c = refl
 
 pub waypoint-of-spec : {M : Type 1} → statement M

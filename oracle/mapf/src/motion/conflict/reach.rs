@@ -92,4 +92,7 @@ fn plain(hint: WaitHint) -> t::WaitHint {
 }
 
 #[cfg(feature = "watched")]
+pub mod trail;
+
+#[cfg(feature = "watched")]
 pub mod watch;

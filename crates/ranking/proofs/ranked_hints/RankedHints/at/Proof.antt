@@ -7,7 +7,7 @@ use native.Mathlib.Omega.{arith}
 use borrow.Author.Needs.{needs}
 use lib.ListN.{length, length-map, length-take, getD, List·getD-eq-default}
 use lib.Seq.{drop-cons, getD-take}
-use Rattle.ranking.specs.Hints.{blank, refusedBy, noHints, held}
+use Rattle.ranking.specs.Hints.{blankRanked, rankedRefused, noRanked, rankedHeld}
 use Rattle.ranking.specs.declared.order.RankedHint.{RankedHint}
 use Rattle.ranking.specs.declared.ranked_hints.RankedHints.{RankedHints}
 use Rattle.ranking.proofs.Held.{past}
@@ -16,7 +16,7 @@ use Rattle.ranking.proofs.ranked_hints.RankedHints.at.Tie as tie
 
 -- There are 64 places, and the hints are in them.
 below : (c : tie.Then1) → c .before .before .args .i < 64
-unfolding held
+unfolding rankedHeld
 below c =
     let a = c .before .before .args in
     let places : length (a .t1 .all) ≡ 64 = simp length-map at (c .before .before .good .0 .1 .1 .1 .1 .0 .1 .0 .1) in
@@ -32,15 +32,15 @@ element-copy-out-result : tie.Need-element-copy-out-result
 element-copy-out-result c = omega (arith, below c)
 
 returns : tie.Need-returns
-unfolding held
+unfolding rankedHeld
 returns c =
     let a = c .before .before .before .args in
     let n = a .t1 .count in
     let l : List RankedHint = a .t1 .all in
     let h : a .i < length l = omega (arith, length-take n l) in
-    let any : getD l (a .i) past ≡ getD l (a .i) blank =
-    ap (λ (r : List RankedHint). getD r 0 past) (sym (drop-cons l (a .i) past h) ∙ drop-cons l (a .i) blank h)
-    in any ∙ sym (getD-take n l (a .i) blank (omega (arith, length-take n l)))
+    let any : getD l (a .i) past ≡ getD l (a .i) blankRanked =
+    ap (λ (r : List RankedHint). getD r 0 past) (sym (drop-cons l (a .i) past h) ∙ drop-cons l (a .i) blankRanked h)
+    in any ∙ sym (getD-take n l (a .i) blankRanked (omega (arith, length-take n l)))
 
 none-requires : tie.Need-none-requires
 none-requires c κs = search needs
@@ -51,9 +51,9 @@ element-copy-out-result-2 c = search needs
 returns-2 : tie.Need-returns-2
 returns-2 c =
     let a = c .before .before .before .before .args in
-    let empty : getD (noHints .all) 0 past ≡ blank = unfold noHints refusedBy in refl in
+    let empty : getD (noRanked .all) 0 past ≡ blankRanked = unfold noRanked rankedRefused in refl in
     ap (λ (r : RankedHints). getD (r .all) 0 past) (c .before .none .ensures) ∙
-    empty ∙ sym (List·getD-eq-default (held (a .t1)) blank (omega arith))
+    empty ∙ sym (List·getD-eq-default (rankedHeld (a .t1)) blankRanked (omega arith))
 
 pub at-spec : {M : Type 1} → statement M
 at-spec =

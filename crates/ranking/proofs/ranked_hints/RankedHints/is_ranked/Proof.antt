@@ -8,13 +8,13 @@ use borrow.Author.Tests.{lt-ltb, le-ltb}
 use lib.ListN.{length, length-map}
 use Rattle.lists.specs.Listed.{listedTo}
 use Rattle.ranking.specs.Ranked.{sorted}
-use Rattle.ranking.specs.Hints.{held, isRanked}
+use Rattle.ranking.specs.Hints.{rankedHeld, isRanked}
 use Rattle.ranking.proofs.Held.{at, held-listed, sorted-fails, sorted-passes, sorted-done}
 use Rattle.ranking.proofs.ranked_hints.RankedHints.is_ranked.Statement.{statement}
 use Rattle.ranking.proofs.ranked_hints.RankedHints.is_ranked.Tie as tie
 
 abbrev Inv-loop : tie.InvT-loop
-Inv-loop self n i₀ i = (i ≤ n) × (sorted (listedTo (at self) (self .count) i) ≡ sorted (held self))
+Inv-loop self n i₀ i = (i ≤ n) × (sorted (listedTo (at self) (self .count) i) ≡ sorted (rankedHeld self))
 
 abbrev μ-loop : tie.MeasureT-loop
 μ-loop self n i₀ i = n - i

@@ -4,7 +4,7 @@ use mathlib.Core.Path.{_≡_, sym}
 use native.Mathlib.Omega.{arith}
 use lib.ListN.{length, length-map, length-take}
 use lib.Seq.{length-take-le}
-use Rattle.ranking.specs.Hints.{held}
+use Rattle.ranking.specs.Hints.{rankedHeld}
 use Rattle.ranking.proofs.ranked_hints.RankedHints.len.Statement.{statement}
 use Rattle.ranking.proofs.ranked_hints.RankedHints.len.Tie as tie
 
@@ -13,14 +13,14 @@ places : (c : tie.Start) → length (c .args .self .all) ≡ 64
 places c = simp length-map at (c .good .0 .1 .1 .1 .1 .0 .1 .0 .1)
 
 returns : tie.Need-returns
-unfolding held
+unfolding rankedHeld
 returns c =
     let a = c .before .args .self in
     let taken = length-take (a .count) (a .all) in
     omega (arith, places (c .before), taken)
 
 returns-2 : tie.Need-returns-2
-unfolding held
+unfolding rankedHeld
 returns-2 c = sym (length-take-le _ _ (omega (arith, places (c .before))))
 
 pub len-spec : {M : Type 1} → statement M

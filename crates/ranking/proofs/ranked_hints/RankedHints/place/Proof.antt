@@ -5,13 +5,13 @@ use Prim.Native.Nat.{_+_, _-_}
 use native.Mathlib.Omega.{arith}
 use borrow.Author.Needs.{needs}
 use lib.ListN.{length, length-map, take, drop}
-use Rattle.ranking.specs.Hints.{held, placeOf}
+use Rattle.ranking.specs.Hints.{rankedHeld, rankOf}
 use Rattle.ranking.proofs.Places.{place-here, place-next, place-end}
 use Rattle.ranking.proofs.ranked_hints.RankedHints.place.Statement.{statement}
 use Rattle.ranking.proofs.ranked_hints.RankedHints.place.Tie as tie
 
 abbrev Inv-loop : tie.InvT-loop
-Inv-loop hint self n i₀ i = i + placeOf hint (drop i (take n (self .all))) ≡ placeOf hint (take n (self .all))
+Inv-loop hint self n i₀ i = i + rankOf hint (drop i (take n (self .all))) ≡ rankOf hint (take n (self .all))
 
 abbrev μ-loop : tie.MeasureT-loop
 μ-loop hint self n i₀ i = n - i
@@ -33,7 +33,7 @@ goes-before-requires : tie.Need-goes-before-requires Inv-loop μ-loop
 goes-before-requires c κs = search needs
 
 returns : tie.Need-returns Inv-loop μ-loop
-unfolding held
+unfolding rankedHeld
 returns c =
     let l = c .before .before .before .before in
     let a = l .before .args in
@@ -58,7 +58,7 @@ loop-again c =
     omega arith
 
 returns-2 : tie.Need-returns-2 Inv-loop μ-loop
-unfolding held
+unfolding rankedHeld
 returns-2 c =
     let l = c .before in
     let a = l .before .args in

@@ -6,7 +6,7 @@ use native.Mathlib.Omega.{arith}
 use borrow.Author.Needs.{needs}
 use borrow.Author.Tests.{le-leb, lt-leb}
 use lib.ListN.{length, length-map, length-set}
-use Rattle.ranking.specs.Hints.{held, placeOf, withRanked}
+use Rattle.ranking.specs.Hints.{rankedHeld, rankOf, withRanked}
 use Rattle.ranking.proofs.Places.{without, place-in, room-next, room-filled}
 use Rattle.ranking.proofs.ranked_hints.RankedHints.with_ranked.Statement.{statement}
 use Rattle.ranking.proofs.ranked_hints.RankedHints.with_ranked.Tie as tie
@@ -30,7 +30,7 @@ place-requires : tie.Need-place-requires Inv-loop μ-loop
 place-requires c κs = omega arith
 
 loop-holds : tie.Need-loop-holds Inv-loop μ-loop
-unfolding held
+unfolding rankedHeld
 loop-holds c =
     let s = c .before .before in
     let list = s .args .self in
@@ -79,11 +79,11 @@ add-next : tie.Need-add-next Inv-loop μ-loop
 add-next c = omega arith
 
 returns-2 : tie.Need-returns-2 Inv-loop μ-loop
-unfolding withRanked held
+unfolding withRanked rankedHeld
 returns-2 c =
     let l = c .before .loop in
     let a = c .before .before .before .before .args in
-    let at : l .j ≡ placeOf (a .hint) (held (a .self)) = omega (arith, c .before .before .place .ensures) in
+    let at : l .j ≡ rankOf (a .hint) (rankedHeld (a .self)) = omega (arith, c .before .before .place .ensures) in
     let put = room-filled (a .hint) (a .self .all) (l .next .all) (a .self .count) (l .j) at (omega arith) (l .inv .3) in
     rw (lt-leb _ _ (c .before .before .before .if1 .left), put)
 

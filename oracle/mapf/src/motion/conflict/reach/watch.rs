@@ -1,8 +1,9 @@
 //! Stops the Rust where the rules refuse: a hint out of reach (RULES 4.7), a 65th hint (RULES
 //! 4.10), a pop past the budget (RULES 4.11). And it tells from the search's own stack what the
-//! search did (RULES 13.9 to 13.18).
+//! search did (RULES 13.9 to 13.18), and from which place a hint is stored.
 
 use super::super::{ArrivalPathSearchElement, WaitHint};
+use super::trail;
 use smallvec::Event;
 use std::any::type_name;
 use std::cell::{Cell, RefCell};
@@ -33,6 +34,7 @@ pub fn start(budget: usize) {
     POPS.with(|pops| pops.set(0));
     BUDGET.with(|b| b.set(budget));
     follow(|trail| trail.last = Last::Nothing);
+    trail::start();
     smallvec::watch(told);
 }
 
@@ -147,7 +149,13 @@ fn follow<T>(step: impl FnOnce(&mut Trail) -> T) -> T {
 
 fn told(element: &'static str, event: Event) {
     if element == type_name::<WaitHint>() {
-        if let Event::Push { element, len } = event {
+        if let Event::Push {
+            element,
+            len,
+            place,
+        } = event
+        {
+            trail::store(place);
             // SAFETY: the list's element type has the name of `WaitHint`, which no other type of
             // this crate has, and the pointer is to an element alive during the call.
             store(unsafe { &*element.cast() }, len);
@@ -155,7 +163,7 @@ fn told(element: &'static str, event: Event) {
     } else if element == type_name::<ArrivalPathSearchElement>() {
         // SAFETY: as above, of `ArrivalPathSearchElement`.
         match event {
-            Event::Push { element, len } => {
+            Event::Push { element, len, .. } => {
                 let element = unsafe { &*element.cast() };
                 follow(|trail| trail.push(element, len));
             }

@@ -1,0 +1,79 @@
+-- Each public function of nearing has one answer and one lent memory. tools/contracts.py writes this file.
+-- Assumes nothing.
+use mathlib.Core.Path.{refl}
+use base.Logic.{id⊢, emp}
+use Rattle.nearing.proofs.adjust.adjust_candidate_time as adjust-adjust-candidate-time
+use Rattle.nearing.proofs.adjust.adjust_candidate_time.Symbol as adjust-adjust-candidate-time-symbol
+use Rattle.nearing.proofs.adjust.adjust_candidate_time.Met as adjust-adjust-candidate-time-met
+use Rattle.nearing.proofs.near.leg_says as near-leg-says
+use Rattle.nearing.proofs.near.leg_says.Symbol as near-leg-says-symbol
+use Rattle.nearing.proofs.near.leg_says.Met as near-leg-says-met
+use Rattle.nearing.proofs.near.leg_exits as near-leg-exits
+use Rattle.nearing.proofs.near.leg_exits.Symbol as near-leg-exits-symbol
+use Rattle.nearing.proofs.near.leg_exits.Met as near-leg-exits-met
+use Rattle.nearing.proofs.near.leg_next as near-leg-next
+use Rattle.nearing.proofs.near.leg_next.Symbol as near-leg-next-symbol
+use Rattle.nearing.proofs.near.leg_next.Met as near-leg-next-met
+use Rattle.nearing.proofs.near.ends_near as near-ends-near
+use Rattle.nearing.proofs.near.ends_near.Symbol as near-ends-near-symbol
+use Rattle.nearing.proofs.near.ends_near.Met as near-ends-near-met
+use Rattle.nearing.proofs.next_candidate.find_next_candidate_time as next-candidate-find-next-candidate-time
+use Rattle.nearing.proofs.next_candidate.find_next_candidate_time.Symbol as next-candidate-find-next-candidate-time-symbol
+use Rattle.nearing.proofs.next_candidate.find_next_candidate_time.Met as next-candidate-find-next-candidate-time-met
+use Rattle.settling.specs.Determined.{Determined}
+use Rattle.settling.proofs.Facts.{by-clause}
+use Rattle.contracts.proofs.Rules.{one-answer}
+
+pub adjust-adjust-candidate-time-determined : Determined adjust-adjust-candidate-time-symbol.routine adjust-adjust-candidate-time.ended (λ M. adjust-adjust-candidate-time.clauses)
+adjust-adjust-candidate-time-determined = record {
+  met = λ M. adjust-adjust-candidate-time-met.met;
+  kept = refl;
+  free = λ M 𝓤 H A mem run κs a. (tt, id⊢ 𝓤 (emp 𝓤));
+  one = λ M 𝓤 H A mem run κs a g g' r r' left left' s s'.
+      by-clause 𝓤 adjust-adjust-candidate-time.ended κs a r r' left left' (λ p q. (search one-answer, search one-answer)) s s';
+}
+
+pub near-leg-says-determined : Determined near-leg-says-symbol.routine near-leg-says.ended (λ M. near-leg-says.clauses)
+near-leg-says-determined = record {
+  met = λ M. near-leg-says-met.met;
+  kept = refl;
+  free = λ M 𝓤 H A mem run κs a. (tt, id⊢ 𝓤 (emp 𝓤));
+  one = λ M 𝓤 H A mem run κs a g g' r r' left left' s s'.
+      by-clause 𝓤 near-leg-says.ended κs a r r' left left' (λ p q. (search one-answer, search one-answer)) s s';
+}
+
+pub near-leg-exits-determined : Determined near-leg-exits-symbol.routine near-leg-exits.ended (λ M. near-leg-exits.clauses)
+near-leg-exits-determined = record {
+  met = λ M. near-leg-exits-met.met;
+  kept = refl;
+  free = λ M 𝓤 H A mem run κs a. (tt, id⊢ 𝓤 (emp 𝓤));
+  one = λ M 𝓤 H A mem run κs a g g' r r' left left' s s'.
+      by-clause 𝓤 near-leg-exits.ended κs a r r' left left' (λ p q. (search one-answer, search one-answer)) s s';
+}
+
+pub near-leg-next-determined : Determined near-leg-next-symbol.routine near-leg-next.ended (λ M. near-leg-next.clauses)
+near-leg-next-determined = record {
+  met = λ M. near-leg-next-met.met;
+  kept = refl;
+  free = λ M 𝓤 H A mem run κs a. (tt, id⊢ 𝓤 (emp 𝓤));
+  one = λ M 𝓤 H A mem run κs a g g' r r' left left' s s'.
+      by-clause 𝓤 near-leg-next.ended κs a r r' left left' (λ p q. (search one-answer, search one-answer)) s s';
+}
+
+pub near-ends-near-determined : Determined near-ends-near-symbol.routine near-ends-near.ended (λ M. near-ends-near.clauses)
+near-ends-near-determined = record {
+  met = λ M. near-ends-near-met.met;
+  kept = refl;
+  free = λ M 𝓤 H A mem run κs a. (tt, id⊢ 𝓤 (emp 𝓤));
+  one = λ M 𝓤 H A mem run κs a g g' r r' left left' s s'.
+      by-clause 𝓤 near-ends-near.ended κs a r r' left left' (λ p q. (search one-answer, search one-answer)) s s';
+}
+
+pub next-candidate-find-next-candidate-time-determined : Determined next-candidate-find-next-candidate-time-symbol.routine next-candidate-find-next-candidate-time.ended (λ M. next-candidate-find-next-candidate-time.clauses)
+next-candidate-find-next-candidate-time-determined = record {
+  met = λ M. next-candidate-find-next-candidate-time-met.met;
+  kept = refl;
+  free = λ M 𝓤 H A mem run κs a. (tt, id⊢ 𝓤 (emp 𝓤));
+  one = λ M 𝓤 H A mem run κs a g g' r r' left left' s s'.
+      by-clause 𝓤 next-candidate-find-next-candidate-time.ended κs a r r' left left' (λ p q. (search one-answer, search one-answer)) s s';
+}

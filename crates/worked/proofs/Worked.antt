@@ -1,0 +1,100 @@
+-- The worked examples hold: each is worked out by the prover (RULES, section 10).
+-- Assumes nothing.
+use mathlib.Core.Path.{refl}
+use lib.Ieee
+use Rattle.lists.specs.Listed.{listed, every}
+use Rattle.floats.specs.Compare.{largerOf, smallerOf, isBetween}
+use Rattle.root.specs.Root.{leastUnits, rootOf}
+use Rattle.root.specs.Digits.{wholeRoot, rootPattern}
+use Rattle.numbers.specs.Time.{isExact, spanBetween, spanSum, instantAfter, earlierOf, secondsOf, spanOfSeconds}
+use Rattle.numbers.specs.Time.{instantOfSeconds, instantAfterSeconds}
+use Rattle.shapes.specs.Box.{boxOfPoint, incorporating, inflated, boxOfLeg, overlap}
+use Rattle.shapes.specs.Distance.{criticalDistance, criticalDistanceSquared, followDistance}
+use Rattle.limits.specs.Domain.{isTime, isCoordinate, isRadius, isLimit, isWaypoint, isLeg, isProfile}
+use Rattle.shapes.specs.Leg.{placeOf, isBackward, isRising, isBrief}
+use Rattle.shapes.specs.Vector.{vectorSum, vectorDifference, scaled, divided, dotOf}
+use Rattle.courses.specs.Course.{runOf, courseOf}
+use Rattle.courses.specs.Norm.{normOf, directionOf}
+use Rattle.lines.specs.NearLine.{acrossQuadratic, outlasting, pastEnd, spellOf, nearLine}
+use Rattle.lines.specs.Stationary.{stationaryProximity}
+use Rattle.waits.specs.Hint.{isPlaced}
+use Rattle.waits.specs.Hints as W
+use Rattle.waiting.specs.Crossing.{beforeCrossing, besideLine, crossingWait}
+use Rattle.waiting.specs.Parts.{agentAfter}
+use Rattle.waiting.specs.Standing.{firstBegin, nearEnds, standingWait}
+use Rattle.waiting.specs.Oncoming.{oncomingWait}
+use Rattle.chasing.specs.Chase.{firstSeen, chaseOf, openingOf}
+use Rattle.sawtooth.specs.Rounds.{strideOf, roundOf, roundsIn}
+use Rattle.following.specs.Follow.{withStop, opened, followed, following}
+use Rattle.ranking.specs.Hints as R
+use Rattle.ranking.specs.Ranked.{goesBefore, inserted}
+use Rattle.obstacles.specs.Obstacle.{legsOf, widened, boxOfTrajectory}
+use Rattle.obstacles.specs.Lent.{waypointsOf, boxOf, obstaclesWith, obstaclesOf}
+use Rattle.obstacles.specs.Examined.{tiles, isLaid, isTrajectory, legsInAll, isFew, isShaped, isAllowed, areAllowed}
+use Rattle.obstacles.specs.Examined.{agentExamined}
+use Rattle.finding.specs.LegHints.{partOf, withPart, withLeg}
+use Rattle.finding.specs.Walk.{gapsOf, nearLeg, withLegs, withObstacle, withObstacles, hintsOf}
+use Rattle.hints.specs.Asked.{askedHints}
+use Rattle.hints.specs.Contour.{scaleOf, contourOf, gradeOf, gradedOnto, rankedHints}
+use Rattle.worked.specs.Worked.{Worked}
+
+pub worked : Worked
+unfolding askedHints agentExamined isShaped isLaid tiles listed every isFew legsInAll isTrajectory areAllowed isAllowed
+    isProfile isRadius isBetween isLeg isWaypoint isTime isCoordinate isLimit isBackward isRising isBrief obstaclesOf
+    obstaclesWith waypointsOf boxOf boxOfTrajectory widened legsOf criticalDistanceSquared criticalDistance followDistance
+    largerOf smallerOf boxOfPoint incorporating inflated boxOfLeg overlap placeOf vectorSum vectorDifference scaled divided dotOf
+    runOf courseOf acrossQuadratic outlasting pastEnd spellOf nearLine normOf directionOf stationaryProximity
+    W.refusedBy W.noHints W.held W.isGoing W.withHint W.withWait W.after isPlaced crossingWait besideLine beforeCrossing
+    agentAfter standingWait firstBegin nearEnds oncomingWait firstSeen chaseOf openingOf strideOf roundOf roundsIn withStop
+    opened followed following hintsOf withObstacles withObstacle withLegs nearLeg gapsOf withLeg withPart partOf
+    rankedHints gradedOnto gradeOf contourOf scaleOf R.rankedRefused R.noRanked R.rankedHeld R.withRanked goesBefore inserted
+    rootOf leastUnits rootPattern wholeRoot earlierOf spanBetween spanSum isExact secondsOf instantOfSeconds
+    instantAfterSeconds spanOfSeconds instantAfter Ieee.ofBits Ieee.ofInt Ieee.add Ieee.sub Ieee.mul Ieee.div Ieee.neg
+    Ieee.le Ieee.lt Ieee.toSigned
+worked =
+    record {
+      following =
+          record {
+            half-as-fast = refl;
+            half-as-fast-ranked = refl;
+            within-follow-distance = refl;
+            within-follow-distance-ranked = refl;
+            caught-up = refl;
+            set-out-before = refl;
+            as-fast = refl;
+            at-the-start = refl;
+            behind = refl;
+          };
+      chases =
+          record {
+            until-gone = refl;
+            until-gone-ranked = refl;
+            to-the-end = refl;
+            too-many = refl;
+          };
+      standing =
+          record {
+            on-the-way = refl;
+            on-the-way-ranked = refl;
+            stands-behind = refl;
+            beyond-the-goal = refl;
+            beside-the-way = refl;
+            draws-onto-the-way = refl;
+            leaves-the-way = refl;
+          };
+      oncoming =
+          record {
+            comes-to-meet = refl;
+            comes-to-meet-ranked = refl;
+            comes-past = refl;
+            turns-off = refl;
+            gone-before = refl;
+            gone-before-ranked = refl;
+          };
+      past-end =
+          record {
+            goes-on-beyond = refl;
+            goes-on-beyond-ranked = refl;
+            comes-from-beyond = refl;
+          };
+    }
