@@ -15,11 +15,10 @@ use Rattle.numbers.proofs.Integers.{at-most-trans}
 use Rattle.numbers.proofs.Order.{after-not-below}
 use Rattle.proximity.specs.declared.detect.Proximity.{Proximity}
 use Rattle.proximity.specs.declared.detect.Proximity.the-variants as P
-use Rattle.arrivals.specs.Legs.{meets, leftAt, relieved, follows, sooner}
+use Rattle.arrivals.specs.Legs.{Says, meets, leftAt, relieved, follows, sooner}
+use Rattle.arrivals.specs.Legs as S
 use Rattle.arrivals.specs.Search.{View, says, exits, nextAt}
 use Rattle.arrivals.specs.Sweeps.{Refuses}
-use Rattle.arrivals.specs.declared.says.Says.{Says}
-use Rattle.arrivals.specs.declared.says.Says.the-variants as S
 use Rattle.arrivals.specs.declared.next.Next.{Next}
 use Rattle.arrivals.specs.declared.next.Next.the-variants as X
 use Rattle.arrivals.proofs.Instants.{by-cond, same-instant}

@@ -1,6 +1,5 @@
 mod Instants
 pub mod Lists
-mod Else
 mod Legs
 mod Walks
 mod Remaining

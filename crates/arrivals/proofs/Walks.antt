@@ -10,12 +10,11 @@ use Rattle.floats.proofs.Tests.{passed, failed}
 use Rattle.numbers.specs.declared.time.TimePoint.{TimePoint}
 use Rattle.numbers.proofs.Integers.{at-most-trans}
 use Rattle.numbers.proofs.Exact.{both}
-use Rattle.arrivals.specs.Legs.{meets, sooner}
+use Rattle.arrivals.specs.Legs.{Says, meets, sooner}
+use Rattle.arrivals.specs.Legs as S
 use Rattle.arrivals.specs.Search.{View, looked, orNext, found, swept, finish, last, says, exits, flee, look, adjust}
 use Rattle.arrivals.specs.Search.{nextAt, nextIn, next, soonest, sweep}
 use Rattle.arrivals.specs.Sweeps.{All, finishOf, Fair, Joined, Ruled}
-use Rattle.arrivals.specs.declared.says.Says.{Says}
-use Rattle.arrivals.specs.declared.says.Says.the-variants as S
 use Rattle.arrivals.specs.declared.next.Next.{Next}
 use Rattle.arrivals.specs.declared.next.Next.the-variants as X
 use Rattle.arrivals.specs.declared.turn.Adjustment.{Adjustment}

@@ -1,5 +1,6 @@
 -- What one leg's proximity to the place says to a candidate (RULES 12.7 to 12.9, 12.15).
 -- Assumes nothing.
+use Prim.Native.Nat.{ℕ}
 use mathlib.Core.Bool.{cond}
 use lib.IntN.{pos}
 use lib.Signed.{ltZ}
@@ -10,10 +11,17 @@ use Rattle.numbers.specs.declared.time.Instant.{Instant}
 use Rattle.numbers.specs.declared.time.Instant.the-variants as I
 use Rattle.proximity.specs.declared.detect.Proximity.{Proximity}
 use Rattle.proximity.specs.declared.detect.Proximity.the-variants as P
-use Rattle.arrivals.specs.declared.says.Says.{Says}
-use Rattle.arrivals.specs.declared.says.Says.the-variants.{Pass, Clear, Held, Out, Refused}
 use Rattle.arrivals.specs.declared.next.Next.{Next}
 use Rattle.arrivals.specs.declared.next.Next.the-variants as X
+
+-- Nothing, so that the next leg is asked; that the walk ends unviolated; a violation without an exit; one that is left at an
+-- instant; or a refusal and its number (RULES 12.7 to 12.9).
+pub data Says : Type 0 where
+  Pass : Says
+  Clear : Says
+  Held : Says
+  Out : TimePoint → Says
+  Refused : ℕ → Says
 
 -- While not violated: no entry, so the next leg; an entry after the candidate ends the walk; else it is violated, and an exit
 -- after the candidate is the result, one at or before it relieves it again (RULES 12.7).

@@ -3,14 +3,15 @@
 use Prim.Native.Nat.{ℕ, zero, suc, _+_}
 use mathlib.Core.Bool.{Bool, true, false, cond, _&&_}
 use mathlib.Core.List.{List, [], _∷_, _++_}
+use lib.IntN.{pos}
 use lib.ListN.{length}
 use lib.Signed.{ltZ}
 use Rattle.refusals.specs.Names.{STUCK}
+use Rattle.numbers.specs.Time.{instantAfter}
 use Rattle.numbers.specs.declared.time.TimePoint.{TimePoint}
 use Rattle.proximity.specs.declared.detect.Proximity.{Proximity}
-use Rattle.arrivals.specs.Legs.{meets, relieved, follows, sooner}
-use Rattle.arrivals.specs.declared.says.Says.{Says}
-use Rattle.arrivals.specs.declared.says.Says.the-variants as S
+use Rattle.arrivals.specs.Legs.{Says, meets, leftAt, relieved, follows, sooner}
+use Rattle.arrivals.specs.Legs as S
 use Rattle.arrivals.specs.declared.next.Next.{Next}
 use Rattle.arrivals.specs.declared.next.Next.the-variants as X
 use Rattle.arrivals.specs.declared.turn.Adjustment.{Adjustment}
@@ -43,6 +44,10 @@ looked S.Clear go flee = A.Quiet
 looked S.Held go flee = flee tt
 looked (S.Out t) go flee = A.Pushed t
 looked (S.Refused n) go flee = A.Refused n
+
+-- With no leg more, once an exit is found while violated: what it says is the obstacle's answer (RULES 12.9).
+unfoldable pub pushedOut : TimePoint → TimePoint → Adjustment
+pushedOut c exit = looked (leftAt c exit (instantAfter exit (record { 0 = pos 10_000 }))) (λ _. A.Lost) (λ _. A.Lost)
 
 abbrev pub orNext : Next → (Unit {0} → Next) → Next
 orNext X.Missing go = go tt

@@ -1,30 +1,13 @@
 // The candidate that may follow one (docs/RULES.md, 12.15 and 12.17).
 use numbers::time::TimePoint;
-use proximity::detect::Proximity;
 ghost use mathlib.Core.Path.{_≡_};
-ghost use Rattle.arrivals.specs.Legs.{follows, sooner};
+ghost use Rattle.arrivals.specs.Legs.{sooner};
 
 // None, an instant, or a refusal and its number.
 pub enum Next {
     Missing,
     At(TimePoint),
     Refused(u64),
-}
-
-// The exit of a leg, where it is after the candidate; where there is none, the walk goes to the next leg.
-pub fn next_of(near: Proximity, candidate: TimePoint) -> Next
-    ensures { λ r. ⌜ r ≡ follows candidate near ⌝ }
-{
-    if let Proximity::Refused(n) = near {
-        return Next::Refused(n);
-    }
-    let Proximity::Passes(_, exit) = near else {
-        return Next::Missing;
-    };
-    if candidate.is_before(exit) {
-        return Next::At(exit);
-    }
-    Next::Missing
 }
 
 // The smaller of what an obstacle gives and the best so far.

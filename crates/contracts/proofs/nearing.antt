@@ -5,15 +5,9 @@ use base.Logic.{id⊢, emp}
 use Rattle.nearing.proofs.adjust.adjust_candidate_time as adjust-adjust-candidate-time
 use Rattle.nearing.proofs.adjust.adjust_candidate_time.Symbol as adjust-adjust-candidate-time-symbol
 use Rattle.nearing.proofs.adjust.adjust_candidate_time.Met as adjust-adjust-candidate-time-met
-use Rattle.nearing.proofs.near.leg_says as near-leg-says
-use Rattle.nearing.proofs.near.leg_says.Symbol as near-leg-says-symbol
-use Rattle.nearing.proofs.near.leg_says.Met as near-leg-says-met
-use Rattle.nearing.proofs.near.leg_exits as near-leg-exits
-use Rattle.nearing.proofs.near.leg_exits.Symbol as near-leg-exits-symbol
-use Rattle.nearing.proofs.near.leg_exits.Met as near-leg-exits-met
-use Rattle.nearing.proofs.near.leg_next as near-leg-next
-use Rattle.nearing.proofs.near.leg_next.Symbol as near-leg-next-symbol
-use Rattle.nearing.proofs.near.leg_next.Met as near-leg-next-met
+use Rattle.nearing.proofs.near.near_leg as near-near-leg
+use Rattle.nearing.proofs.near.near_leg.Symbol as near-near-leg-symbol
+use Rattle.nearing.proofs.near.near_leg.Met as near-near-leg-met
 use Rattle.nearing.proofs.near.ends_near as near-ends-near
 use Rattle.nearing.proofs.near.ends_near.Symbol as near-ends-near-symbol
 use Rattle.nearing.proofs.near.ends_near.Met as near-ends-near-met
@@ -33,31 +27,13 @@ adjust-adjust-candidate-time-determined = record {
       by-clause 𝓤 adjust-adjust-candidate-time.ended κs a r r' left left' (λ p q. (search one-answer, search one-answer)) s s';
 }
 
-pub near-leg-says-determined : Determined near-leg-says-symbol.routine near-leg-says.ended (λ M. near-leg-says.clauses)
-near-leg-says-determined = record {
-  met = λ M. near-leg-says-met.met;
+pub near-near-leg-determined : Determined near-near-leg-symbol.routine near-near-leg.ended (λ M. near-near-leg.clauses)
+near-near-leg-determined = record {
+  met = λ M. near-near-leg-met.met;
   kept = refl;
   free = λ M 𝓤 H A mem run κs a. (tt, id⊢ 𝓤 (emp 𝓤));
   one = λ M 𝓤 H A mem run κs a g g' r r' left left' s s'.
-      by-clause 𝓤 near-leg-says.ended κs a r r' left left' (λ p q. (search one-answer, search one-answer)) s s';
-}
-
-pub near-leg-exits-determined : Determined near-leg-exits-symbol.routine near-leg-exits.ended (λ M. near-leg-exits.clauses)
-near-leg-exits-determined = record {
-  met = λ M. near-leg-exits-met.met;
-  kept = refl;
-  free = λ M 𝓤 H A mem run κs a. (tt, id⊢ 𝓤 (emp 𝓤));
-  one = λ M 𝓤 H A mem run κs a g g' r r' left left' s s'.
-      by-clause 𝓤 near-leg-exits.ended κs a r r' left left' (λ p q. (search one-answer, search one-answer)) s s';
-}
-
-pub near-leg-next-determined : Determined near-leg-next-symbol.routine near-leg-next.ended (λ M. near-leg-next.clauses)
-near-leg-next-determined = record {
-  met = λ M. near-leg-next-met.met;
-  kept = refl;
-  free = λ M 𝓤 H A mem run κs a. (tt, id⊢ 𝓤 (emp 𝓤));
-  one = λ M 𝓤 H A mem run κs a g g' r r' left left' s s'.
-      by-clause 𝓤 near-leg-next.ended κs a r r' left left' (λ p q. (search one-answer, search one-answer)) s s';
+      by-clause 𝓤 near-near-leg.ended κs a r r' left left' (λ p q. (search one-answer, search one-answer)) s s';
 }
 
 pub near-ends-near-determined : Determined near-ends-near-symbol.routine near-ends-near.ended (λ M. near-ends-near.clauses)

@@ -5,6 +5,8 @@ use mathlib.Core.Path.{_≡_, refl, ap, _∙_}
 use mathlib.Core.Bool.{cond, _&&_}
 use mathlib.Core.List.{List, [], _∷_}
 use native.Mathlib.Omega.{arith}
+use lib.IntN.{ℤ, pos}
+use lib.ListN.{getD}
 use lib.Signed.{ltZ}
 use lib.Ieee.{Float}
 use Rattle.lists.specs.Listed.{listed, listedTo}
@@ -73,6 +75,10 @@ module _ (limit : Float) (f : ℕ → Leg) (end : ℕ) where
     next-none h = rw (watched-done i h)
 
 -- ---- An obstacle with the waypoints w finishes at the last of them.
+
+-- The time of the waypoint at `last` in a table.
+abbrev pub finishIn : List ℤ → ℕ → TimePoint
+finishIn times last = record { 0 = getD times last (pos 0) }
 
 module _ (g : Waypoint) (limit : Float) (w : ℕ → Waypoint) where
   abbrev leg : ℕ → Leg

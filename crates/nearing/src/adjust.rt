@@ -1,9 +1,11 @@
 // What one obstacle does to a candidate: `adjust_candidate_time` of the Rust (docs/RULES.md, 12.5 to 12.10).
 use crate::near;
-use arrivals::says::Says;
+use arrivals::leaving;
 use arrivals::turn::Adjustment;
 use numbers::time::TimePoint;
 use obstacles::table;
+use proximity::detect::Entry;
+use proximity::detect::Proximity;
 use shapes::waypoint::Waypoint;
 ghost use mathlib.Core.Path.{_≡_};
 ghost use lib.ListN.{getD};
@@ -13,7 +15,8 @@ ghost use Rattle.obstacles.specs.Lent.{legIn};
 ghost use Rattle.arrivals.specs.Search.{flee, adjust};
 ghost use Rattle.nearing.specs.Watched.{viewAt, watchedLegs};
 
-// Violated: the first exit in the legs between the waypoints from `from` to `last`, else the last waypoint's time.
+// Violated: the first exit in the legs between the waypoints from `from` to `last`, else the last waypoint's time. A leg without
+// an exit leaves it to the next.
 fn flee_from(
     place: Waypoint,
     limit: f64,
@@ -29,18 +32,18 @@ fn flee_from(
     let mut i = from;
     while i < last {
         let leg = table::leg_at(times, xs, ys, i, i + 1);
-        let said = near::leg_exits(place, limit, leg, candidate);
-        match said {
-            Says::Pass => {
-                i += 1;
-            }
-            Says::Held => {
-                i += 1;
-            }
-            Says::Clear => return Adjustment::Quiet,
-            Says::Out(t) => return Adjustment::Pushed(t),
-            Says::Refused(n) => return Adjustment::Refused(n),
+        i += 1;
+        if leg.end.time.is_before(candidate) {
+            continue;
         }
+        let near = near::near_leg(place, limit, leg);
+        if let Proximity::Refused(n) = near {
+            return Adjustment::Refused(n);
+        }
+        let Proximity::Passes(_, exit) = near else {
+            continue;
+        };
+        return leaving::left_at(exit, candidate);
     }
     let finish = table::time_at(times, last);
     if candidate.is_before(finish) {
@@ -49,7 +52,8 @@ fn flee_from(
     Adjustment::Lost
 }
 
-// The obstacle with the legs between the waypoints from `from` to `last`.
+// The obstacle with the legs between the waypoints from `from` to `last`. A leg without an entry leaves it to the next; one
+// without an exit violates the candidate, and the legs after it are asked for an exit.
 pub fn adjust_candidate_time(
     place: Waypoint,
     limit: f64,
@@ -65,17 +69,28 @@ pub fn adjust_candidate_time(
     let mut i = from;
     while i < last {
         let leg = table::leg_at(times, xs, ys, i, i + 1);
-        let said = near::leg_says(place, limit, leg, candidate);
-        match said {
-            Says::Pass => {
-                i += 1;
-            }
-            Says::Clear => return Adjustment::Quiet,
-            Says::Held => {
-                return flee_from(place, limit, times, xs, ys, i + 1, last, candidate);
-            }
-            Says::Out(t) => return Adjustment::Pushed(t),
-            Says::Refused(n) => return Adjustment::Refused(n),
+        i += 1;
+        if leg.end.time.is_before(candidate) {
+            continue;
+        }
+        if candidate.is_before(leg.start.time) {
+            return Adjustment::Quiet;
+        }
+        let near = near::near_leg(place, limit, leg);
+        if let Proximity::Refused(n) = near {
+            return Adjustment::Refused(n);
+        }
+        let Entry::At(enter) = near.entry() else {
+            continue;
+        };
+        if candidate.is_before(enter) {
+            return Adjustment::Quiet;
+        }
+        let Proximity::Passes(_, exit) = near else {
+            return flee_from(place, limit, times, xs, ys, i, last, candidate);
+        };
+        if candidate.is_before(exit) {
+            return Adjustment::Pushed(exit);
         }
     }
     Adjustment::Quiet

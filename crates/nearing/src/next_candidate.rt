@@ -3,6 +3,7 @@ use crate::near;
 use arrivals::next::Next;
 use numbers::time::TimePoint;
 use obstacles::table;
+use proximity::detect::Proximity;
 use shapes::waypoint::Waypoint;
 ghost use mathlib.Core.Path.{_≡_};
 ghost use Rattle.lists.specs.Listed.{listedTo};
@@ -25,7 +26,7 @@ fn ending(place: Waypoint, limit: f64, last: Waypoint, candidate: TimePoint) -> 
     Next::At(finish)
 }
 
-// The obstacle with the legs between the waypoints from `from` to `last`.
+// The obstacle with the legs between the waypoints from `from` to `last`. A leg without an exit leaves it to the next.
 pub fn find_next_candidate_time(
     place: Waypoint,
     limit: f64,
@@ -44,13 +45,19 @@ pub fn find_next_candidate_time(
     let mut i = from;
     while i < last {
         let leg = table::leg_at(times, xs, ys, i, i + 1);
-        let found = near::leg_next(place, limit, leg, candidate);
-        match found {
-            Next::Missing => {
-                i += 1;
-            }
-            Next::At(t) => return Next::At(t),
-            Next::Refused(n) => return Next::Refused(n),
+        i += 1;
+        if leg.end.time.is_before(candidate) {
+            continue;
+        }
+        let near = near::near_leg(place, limit, leg);
+        if let Proximity::Refused(n) = near {
+            return Next::Refused(n);
+        }
+        let Proximity::Passes(_, exit) = near else {
+            continue;
+        };
+        if candidate.is_before(exit) {
+            return Next::At(exit);
         }
     }
     let w = table::waypoint_at(times, xs, ys, last);

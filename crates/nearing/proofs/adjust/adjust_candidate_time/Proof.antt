@@ -2,25 +2,33 @@
 -- Assumes nothing.
 use Prim.Native.Nat.{ℕ, _+_, _-_}
 use mathlib.Core.Path.{_≡_, sym, _∙_}
+use mathlib.Core.Bool.{cond}
 use mathlib.Core.List.{List}
 use native.Mathlib.Omega.{arith}
 use borrow.Author.Needs.{needs}
-use lib.IntN.{ℤ, pos}
-use lib.ListN.{getD}
+use lib.IntN.{ℤ}
+use lib.Signed.{ltZ}
+use lib.Ieee.{Float}
 use Rattle.lists.specs.Listed.{listedTo}
 use Rattle.numbers.specs.declared.time.TimePoint.{TimePoint}
 use Rattle.shapes.specs.declared.waypoint.Leg.{Leg}
 use Rattle.shapes.specs.declared.waypoint.Waypoint.{Waypoint}
 use Rattle.obstacles.specs.Lent.{waypointIn, legIn}
+use Rattle.arrivals.specs.Legs.{Says, Pass, Clear, Out, meets}
 use Rattle.arrivals.specs.Search.{looked, flee, look, adjust}
-use Rattle.nearing.specs.Watched.{Watched, viewAt, watchedLegs}
-use Rattle.nearing.proofs.Walking.{adjust-begins, look-next, look-done}
+use Rattle.nearing.specs.Watched.{Watched, nearOf, viewAt, watchedLegs}
+use Rattle.nearing.proofs.Else.{no-entry, held, entered, no-exit-holds}
+use Rattle.nearing.proofs.Walking.{finishIn, adjust-begins, look-next, look-done}
 use Rattle.nearing.proofs.adjust.adjust_candidate_time.Statement.{statement}
 use Rattle.nearing.proofs.adjust.adjust_candidate_time.Tie as tie
 
--- The time of the waypoint at `last`.
-abbrev finishIn : List ℤ → ℕ → TimePoint
-finishIn times last = record { 0 = getD times last (pos 0) }
+-- What a leg says, the legs from waypoint i on after it, is the whole walk's answer.
+abbrev DecidedBy : Says → Waypoint → Float → List ℤ → List Float → List Float → ℕ → ℕ → TimePoint → ℕ → Type 0
+DecidedBy said place limit times xs ys from last candidate i =
+    let legs : ℕ → List Watched = λ j. watchedLegs limit (listedTo (legIn times xs ys) last j) in
+    let finish : TimePoint = finishIn times last in
+    looked said (λ _. look (viewAt place) candidate finish (legs i)) (λ _. flee (viewAt place) candidate finish (legs i)) ≡
+    adjust (viewAt place) candidate (legs from)
 
 abbrev Inv-loop : tie.InvT-loop
 Inv-loop place limit times xs ys from last candidate i₀ i =
@@ -42,73 +50,140 @@ add-leg-at c = omega arith
 leg-at-requires : tie.Need-leg-at-requires Inv-loop μ-loop
 leg-at-requires c κs = search needs
 
-leg-says-requires : tie.Need-leg-says-requires Inv-loop μ-loop
-leg-says-requires c κs = search needs
+add-i : tie.Need-add-i Inv-loop μ-loop
+add-i c = omega arith
 
--- What the leg from waypoint i on says decides how the walk goes on.
-turn : (c : tie.After-leg-says Inv-loop μ-loop) →
-    let j = c .before .before .before .loop .i + 1 in
+is-before-requires : tie.Need-is-before-requires Inv-loop μ-loop
+is-before-requires c κs = search needs
+
+-- The leg from waypoint i on says nothing where it has ended, and all is clear where it has not begun; else how near it comes
+-- decides.
+turn : (c : tie.After-is-before Inv-loop μ-loop) →
     let a = c .before .before .before .before .before .before .args in
-    let finish : TimePoint = finishIn (a .times .now) (a .last) in
-    let legs : ℕ → List Watched =
-    λ j. watchedLegs (a .limit) (listedTo (legIn (a .times .now) (a .xs .now) (a .ys .now)) (a .last) j)
-    in
-    looked (c .leg-says .result)
-    (λ _. look (viewAt (a .place)) (a .candidate) finish (legs j))
-    (λ _. flee (viewAt (a .place)) (a .candidate) finish (legs j)) ≡
-    adjust (viewAt (a .place)) (a .candidate) (legs (a .from))
+    let leg = c .before .leg-at .result in
+    let near = nearOf (a .place) (a .limit) leg in
+    let begun = cond (ltZ (a .candidate .0) (leg .start .time .0)) Clear (meets (a .candidate) near) in
+    DecidedBy (cond (c .is-before .result) Pass begun) (a .place) (a .limit) (a .times .now) (a .xs .now) (a .ys .now)
+    (a .from) (a .last) (a .candidate) (c .before .before .before .loop .i + 1)
 turn c =
     let more = c .before .before .loop-test .taken in
     let l = c .before .before .before .loop in
     let a = c .before .before .before .before .before .before .args in
     let leg : ℕ → Leg = legIn (a .times .now) (a .xs .now) (a .ys .now) in
     let here = look-next (a .limit) leg (a .last) (viewAt (a .place)) (a .candidate) in
-    rw (c .leg-says .ensures, c .before .leg-at .ensures) (sym (here (l .i) (finishIn (a .times .now) (a .last)) more) ∙ l .inv)
-
-enum-told : tie.Need-enum-told Inv-loop μ-loop
-enum-told c = search needs
-
-add-i : tie.Need-add-i Inv-loop μ-loop
-add-i c = omega arith
+    rw (c .is-before .ensures, c .before .leg-at .ensures) (sym (here (l .i) (finishIn (a .times .now) (a .last)) more) ∙ l .inv)
 
 loop-less : tie.Need-loop-less Inv-loop μ-loop
 loop-less c = omega arith
 
 loop-again : tie.Need-loop-again Inv-loop μ-loop
-loop-again c = rw (c .enum-told .given .1) at (turn (c .before .before))
+loop-again c = rw (c .if1 .taken) at (turn (c .before))
 
-enum-told-2 : tie.Need-enum-told-2 Inv-loop μ-loop
-enum-told-2 c = search needs
+is-before-requires-2 : tie.Need-is-before-requires-2 Inv-loop μ-loop
+is-before-requires-2 c κs = search needs
 
 returns : tie.Need-returns Inv-loop μ-loop
-returns c = rw (c .enum-told2 .given .1) at (turn (c .before .before))
+returns c =
+    let ended = c .before .before in
+    rw (ended .if1 .left, sym (c .before .is-before2 .ensures) ∙ c .if2 .taken) at (turn (ended .before))
 
-enum-told-3 : tie.Need-enum-told-3 Inv-loop μ-loop
-enum-told-3 c = search needs
+near-leg-requires : tie.Need-near-leg-requires Inv-loop μ-loop
+near-leg-requires c κs = search needs
 
-add-flee-from : tie.Need-add-flee-from Inv-loop μ-loop
-add-flee-from c = omega arith
+-- A leg that has begun and not ended: its entry is read, and then its exit.
+reads-near : (c : tie.After-near-leg Inv-loop μ-loop) →
+    let a = c .before .before .before .before .before .before .before .before .before .before .args in
+    DecidedBy (meets (a .candidate) (c .near-leg .result)) (a .place) (a .limit) (a .times .now) (a .xs .now) (a .ys .now)
+    (a .from) (a .last) (a .candidate) (c .before .before .before .before .before .before .before .loop .i + 1)
+reads-near c =
+    let begun = c .before in
+    let ended = begun .before .before in
+    rw (c .near-leg .ensures)
+    (rw (ended .if1 .left, sym (begun .before .is-before2 .ensures) ∙ begun .if2 .left) at (turn (ended .before)))
+
+enum-known-near : tie.Need-enum-known-near Inv-loop μ-loop
+enum-known-near c = search needs
+
+returns-2 : tie.Need-returns-2 Inv-loop μ-loop
+unfolding meets
+returns-2 c = rw (c .before .near .given .1) at (reads-near (c .before .before .before))
+
+entry-requires : tie.Need-entry-requires Inv-loop μ-loop
+entry-requires c κs = search needs
+
+enum-known-enter : tie.Need-enum-known-enter Inv-loop μ-loop
+enum-known-enter c = search needs
+
+enum-told : tie.Need-enum-told Inv-loop μ-loop
+enum-told c = search needs
+
+loop-less-2 : tie.Need-loop-less-2 Inv-loop μ-loop
+loop-less-2 c = omega arith
+
+loop-again-2 : tie.Need-loop-again-2 Inv-loop μ-loop
+loop-again-2 c =
+    let entry = c .before .before in
+    rw (no-entry _ _ (entry .before .match .keys2) (sym (entry .entry .ensures) ∙ c .enum-told .given .1)) at
+    (reads-near (entry .before .before))
+
+is-before-requires-3 : tie.Need-is-before-requires-3 Inv-loop μ-loop
+is-before-requires-3 c κs = search needs
+
+-- With an entry: the candidate is tested against it.
+reads-entry : (c : tie.After-is-before3 Inv-loop μ-loop) →
+    let near = c .before .before .before .before .before .before in
+    let leg = near .before .before .before .before .before in
+    let a = leg .before .before .before .before .before .args in
+    DecidedBy (cond (c .is-before3 .result) Clear (held (a .candidate) (near .near-leg .result))) (a .place) (a .limit)
+    (a .times .now) (a .xs .now) (a .ys .now) (a .from) (a .last) (a .candidate) (leg .before .before .loop .i + 1)
+reads-entry c =
+    let enter = c .before .before in
+    let entry = enter .before .before in
+    rw (c .is-before3 .ensures)
+    (rw (entered _ _ _ (sym (entry .entry .ensures) ∙ enter .enter .given .1)) at (reads-near (entry .before .before)))
+
+returns-3 : tie.Need-returns-3 Inv-loop μ-loop
+returns-3 c = rw (c .if3 .taken) at (reads-entry (c .before))
+
+enum-known-near-2 : tie.Need-enum-known-near-2 Inv-loop μ-loop
+enum-known-near-2 c = search needs
 
 flee-from-requires : tie.Need-flee-from-requires Inv-loop μ-loop
 flee-from-requires c κs = search needs
 
-returns-2 : tie.Need-returns-2 Inv-loop μ-loop
-returns-2 c = c .flee-from .ensures ∙ rw (c .before .enum-told3 .given .1) at (turn (c .before .before .before))
-
-enum-known-said : tie.Need-enum-known-said Inv-loop μ-loop
-enum-known-said c = search needs
-
-returns-3 : tie.Need-returns-3 Inv-loop μ-loop
-returns-3 c = rw (c .before .said .given .1) at (turn (c .before .before .before))
-
-enum-known-said-2 : tie.Need-enum-known-said-2 Inv-loop μ-loop
-enum-known-said-2 c = search needs
-
 returns-4 : tie.Need-returns-4 Inv-loop μ-loop
-returns-4 c = rw (c .before .said2 .given .1) at (turn (c .before .before .before))
+returns-4 c =
+    let violated = c .before .before in
+    rw (c .flee-from .ensures)
+    (rw (violated .if3 .left, no-exit-holds _ _ (c .before .match3 .keys2)) at (reads-entry (violated .before)))
+
+is-before-requires-4 : tie.Need-is-before-requires-4 Inv-loop μ-loop
+is-before-requires-4 c κs = search needs
+
+-- With an exit: it is tested against that too.
+reads-exit : (c : tie.After-is-before4 Inv-loop μ-loop) →
+    let exit = c .before .before in
+    let near = exit .before .before .before .before .before .before .before .before .before in
+    let leg = near .before .before .before .before .before in
+    let a = leg .before .before .before .before .before .args in
+    DecidedBy (cond (c .is-before4 .result) (Out (exit .near2 .given .0 .1 .0)) Pass) (a .place) (a .limit) (a .times .now)
+    (a .xs .now) (a .ys .now) (a .from) (a .last) (a .candidate) (leg .before .before .loop .i + 1)
+reads-exit c =
+    let exit = c .before .before in
+    let violated = exit .before .before in
+    rw (c .is-before4 .ensures) (rw (violated .if3 .left, exit .near2 .given .1) at (reads-entry (violated .before)))
 
 returns-5 : tie.Need-returns-5 Inv-loop μ-loop
-returns-5 c =
+returns-5 c = rw (c .if4 .taken) at (reads-exit (c .before))
+
+loop-less-3 : tie.Need-loop-less-3 Inv-loop μ-loop
+loop-less-3 c = omega arith
+
+loop-again-3 : tie.Need-loop-again-3 Inv-loop μ-loop
+loop-again-3 c = rw (c .if4 .left) at (reads-exit (c .before))
+
+returns-6 : tie.Need-returns-6 Inv-loop μ-loop
+returns-6 c =
     let l = c .before .loop in
     let a = c .before .before .before .before .args in
     let leg : ℕ → Leg = legIn (a .times .now) (a .xs .now) (a .ys .now) in
@@ -124,19 +199,27 @@ adjust-candidate-time-spec =
     loop-holds
     add-leg-at
     leg-at-requires
-    leg-says-requires
-    enum-told
     add-i
+    is-before-requires
     loop-less
     loop-again
-    enum-told-2
+    is-before-requires-2
     returns
-    enum-told-3
-    add-flee-from
-    flee-from-requires
+    near-leg-requires
+    enum-known-near
     returns-2
-    enum-known-said
+    entry-requires
+    enum-known-enter
+    enum-told
+    loop-less-2
+    loop-again-2
+    is-before-requires-3
     returns-3
-    enum-known-said-2
+    enum-known-near-2
+    flee-from-requires
     returns-4
-    returns-5)
+    is-before-requires-4
+    returns-5
+    loop-less-3
+    loop-again-3
+    returns-6)

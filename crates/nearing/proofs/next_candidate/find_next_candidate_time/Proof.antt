@@ -2,6 +2,7 @@
 -- Assumes nothing.
 use Prim.Native.Nat.{ℕ, _+_, _-_}
 use mathlib.Core.Path.{_≡_, sym, _∙_}
+use mathlib.Core.Bool.{cond}
 use mathlib.Core.List.{List}
 use native.Mathlib.Omega.{arith}
 use borrow.Author.Needs.{needs}
@@ -12,10 +13,13 @@ use Rattle.numbers.specs.declared.time.TimePoint.{TimePoint}
 use Rattle.shapes.specs.declared.waypoint.Leg.{Leg}
 use Rattle.shapes.specs.declared.waypoint.Waypoint.{Waypoint}
 use Rattle.obstacles.specs.Lent.{waypointIn, legIn}
+use Rattle.arrivals.specs.Legs.{follows}
 use Rattle.arrivals.specs.Search.{orNext, nextIn, next}
 use Rattle.arrivals.specs.declared.next.Next.{Next}
-use Rattle.nearing.specs.Watched.{viewAt, watchedLegs}
+use Rattle.arrivals.specs.declared.next.Next.the-variants.{Missing}
+use Rattle.nearing.specs.Watched.{nearOf, viewAt, watchedLegs}
 use Rattle.nearing.specs.Table.{endingOf}
+use Rattle.nearing.proofs.Else.{no-exit-follows}
 use Rattle.nearing.proofs.Walking.{next-begins, next-next, next-done, next-none}
 use Rattle.nearing.proofs.next_candidate.find_next_candidate_time.Statement.{statement}
 use Rattle.nearing.proofs.next_candidate.find_next_candidate_time.Tie as tie
@@ -56,16 +60,20 @@ add-leg-at c = omega arith
 leg-at-requires : tie.Need-leg-at-requires Inv-loop μ-loop
 leg-at-requires c κs = search needs
 
-leg-next-requires : tie.Need-leg-next-requires Inv-loop μ-loop
-leg-next-requires c κs = search needs
+add-i : tie.Need-add-i Inv-loop μ-loop
+add-i c = omega arith
 
--- What the leg from waypoint i on gives decides how the walk goes on.
-turn : (c : tie.After-leg-next Inv-loop μ-loop) →
+is-before-requires : tie.Need-is-before-requires Inv-loop μ-loop
+is-before-requires c κs = search needs
+
+-- What the leg from waypoint i on gives decides how the walk goes on: nothing where it has ended, else by how near it comes.
+turn : (c : tie.After-is-before Inv-loop μ-loop) →
     let l = c .before .before .before .loop in
     let a = c .before .before .before .before .before .before .before .args in
     let go : ℕ → Next = walk (a .place) (a .limit) (a .times .now) (a .xs .now) (a .ys .now) (a .last) (a .candidate) in
     let leg : ℕ → Leg = legIn (a .times .now) (a .xs .now) (a .ys .now) in
-    orNext (c .leg-next .result) (λ _. go (l .i + 1)) ≡
+    let near = nearOf (a .place) (a .limit) (c .before .leg-at .result) in
+    orNext (cond (c .is-before .result) Missing (follows (a .candidate) near)) (λ _. go (l .i + 1)) ≡
     next (viewAt (a .place)) (a .candidate) (watchedLegs (a .limit) (listedTo leg (a .last) (a .from)))
 turn c =
     let more = c .before .before .loop-test .taken in
@@ -74,31 +82,60 @@ turn c =
     let leg : ℕ → Leg = legIn (a .times .now) (a .xs .now) (a .ys .now) in
     let end : Next = endIn (a .place) (a .limit) (a .times .now) (a .xs .now) (a .ys .now) (a .last) (a .candidate) in
     let here = next-next (a .limit) leg (a .last) (viewAt (a .place)) (a .candidate) (l .i) in
-    rw (c .leg-next .ensures, c .before .leg-at .ensures) (sym (here end more) ∙ l .inv)
-
-enum-told : tie.Need-enum-told Inv-loop μ-loop
-enum-told c = search needs
-
-add-i : tie.Need-add-i Inv-loop μ-loop
-add-i c = omega arith
+    rw (c .is-before .ensures, c .before .leg-at .ensures) (sym (here end more) ∙ l .inv)
 
 loop-less : tie.Need-loop-less Inv-loop μ-loop
 loop-less c = omega arith
 
 loop-again : tie.Need-loop-again Inv-loop μ-loop
-loop-again c = rw (c .enum-told .given .1) at (turn (c .before .before))
+loop-again c = rw (c .if2 .taken) at (turn (c .before))
 
-enum-known-found : tie.Need-enum-known-found Inv-loop μ-loop
-enum-known-found c = search needs
+near-leg-requires : tie.Need-near-leg-requires Inv-loop μ-loop
+near-leg-requires c κs = search needs
+
+-- A leg that has not ended: its exit alone is read.
+reads-exit : (c : tie.After-near-leg Inv-loop μ-loop) →
+    let l = c .before .before .before .before .before .loop in
+    let a = c .before .before .before .before .before .before .before .before .before .args in
+    let go : ℕ → Next = walk (a .place) (a .limit) (a .times .now) (a .xs .now) (a .ys .now) (a .last) (a .candidate) in
+    let leg : ℕ → Leg = legIn (a .times .now) (a .xs .now) (a .ys .now) in
+    orNext (follows (a .candidate) (c .near-leg .result)) (λ _. go (l .i + 1)) ≡
+    next (viewAt (a .place)) (a .candidate) (watchedLegs (a .limit) (listedTo leg (a .last) (a .from)))
+reads-exit c = rw (c .near-leg .ensures) (rw (c .before .if2 .left) at (turn (c .before .before)))
+
+enum-known-near : tie.Need-enum-known-near Inv-loop μ-loop
+enum-known-near c = search needs
 
 returns-2 : tie.Need-returns-2 Inv-loop μ-loop
-returns-2 c = rw (c .before .found .given .1) at (turn (c .before .before .before))
+unfolding follows
+returns-2 c = rw (c .before .near .given .1) at (reads-exit (c .before .before .before))
 
-enum-known-found-2 : tie.Need-enum-known-found-2 Inv-loop μ-loop
-enum-known-found-2 c = search needs
+enum-known-near-2 : tie.Need-enum-known-near-2 Inv-loop μ-loop
+enum-known-near-2 c = search needs
+
+loop-less-2 : tie.Need-loop-less-2 Inv-loop μ-loop
+loop-less-2 c = omega arith
+
+loop-again-2 : tie.Need-loop-again-2 Inv-loop μ-loop
+loop-again-2 c = rw (no-exit-follows _ _ (c .before .match .keys2) (c .match2 .keys2)) at (reads-exit (c .before .before))
+
+is-before-requires-2 : tie.Need-is-before-requires-2 Inv-loop μ-loop
+is-before-requires-2 c κs = search needs
 
 returns-3 : tie.Need-returns-3 Inv-loop μ-loop
-returns-3 c = rw (c .before .found2 .given .1) at (turn (c .before .before .before))
+unfolding follows
+returns-3 c =
+    let near = c .before .before .before in
+    rw (near .near2 .given .1, sym (c .before .is-before2 .ensures) ∙ c .if3 .taken) at (reads-exit (near .before .before .before))
+
+loop-less-3 : tie.Need-loop-less-3 Inv-loop μ-loop
+loop-less-3 c = omega arith
+
+loop-again-3 : tie.Need-loop-again-3 Inv-loop μ-loop
+unfolding follows
+loop-again-3 c =
+    let near = c .before .before .before in
+    rw (near .near2 .given .1, sym (c .before .is-before2 .ensures) ∙ c .if3 .left) at (reads-exit (near .before .before .before))
 
 waypoint-at-requires : tie.Need-waypoint-at-requires Inv-loop μ-loop
 waypoint-at-requires c κs = search needs
@@ -125,15 +162,20 @@ find-next-candidate-time-spec =
     loop-holds
     add-leg-at
     leg-at-requires
-    leg-next-requires
-    enum-told
     add-i
+    is-before-requires
     loop-less
     loop-again
-    enum-known-found
+    near-leg-requires
+    enum-known-near
     returns-2
-    enum-known-found-2
+    enum-known-near-2
+    loop-less-2
+    loop-again-2
+    is-before-requires-2
     returns-3
+    loop-less-3
+    loop-again-3
     waypoint-at-requires
     ending-requires
     returns-4)
