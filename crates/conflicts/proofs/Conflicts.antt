@@ -21,6 +21,7 @@ use Rattle.proximity.proofs.Origins.{nothing, at-end, enters, passes, rootless,
 use Rattle.conflicts.specs.Conflict.{isClosing, closingAt, enteredAt, judged, conflictOf}
 use Rattle.conflicts.specs.declared.conflict.Verdict.{Verdict}
 use Rattle.conflicts.specs.declared.conflict.Verdict.the-variants.{Clear, Conflict, Refused}
+use Rattle.conflicts.proofs.Else.{with-entry}
 
 -- The boxes overlap and the entry is strictly inside both legs, where the derivative is below -1e-6.
 pub record Entered (agent : Leg) (bounds : BoundingBox) (obstacle : Leg) (other : BoundingBox) (limit : Float) : Type 0 where
@@ -39,13 +40,6 @@ entered-at : {limit : Float} {agent obstacle : Leg} {t : TimePoint} (r : Reached
     Clear
 unfolding enteredAt closingAt
 entered-at r = rw (r .since .given, r .meets)
-
-judged-at : (limit : Float) (agent obstacle : Leg) (p : Proximity) {t : TimePoint} →
-    entryOf p ≡ E.At t → judged limit agent obstacle p ≡ enteredAt limit agent obstacle t
-judged-at limit agent obstacle P.Never e = cc
-judged-at limit agent obstacle (P.Enters u) e = cc
-judged-at limit agent obstacle (P.Passes u v) e = cc
-judged-at limit agent obstacle (P.Refused n) e = cc
 
 module _ (agent : Leg) (bounds : BoundingBox) (obstacle : Leg) (other : BoundingBox) (limit : Float) where
   abbrev Tells : Verdict → Type 0
@@ -109,7 +103,7 @@ module _ (agent : Leg) (bounds : BoundingBox) (obstacle : Leg) (other : Bounding
   enters-conflict x =
       rw (
         x .overlapping,
-        judged-at limit agent obstacle (proximityOf limit agent obstacle) (x .entered),
+        with-entry limit agent obstacle (proximityOf limit agent obstacle) (x .entry) (x .entered),
         entered-at (x .reached),
         x .in-agent,
         x .in-obstacle,

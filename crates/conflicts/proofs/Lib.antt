@@ -1,3 +1,3 @@
 pub mod Conflicts
 pub mod ShortLegs
-mod Else
+pub mod Else

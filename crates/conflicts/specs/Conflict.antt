@@ -46,6 +46,11 @@ judged limit agent obstacle (P.Enters t) = enteredAt limit agent obstacle t
 judged limit agent obstacle (P.Passes t u) = enteredAt limit agent obstacle t
 judged limit agent obstacle (P.Refused n) = Refused n
 
+-- How near two legs come, each in its box: proximity is asked only where the boxes overlap (RULES 9.2, 9.3).
+unfoldable pub proximityInBoxes : Leg → BoundingBox → Leg → BoundingBox → Float → Proximity
+proximityInBoxes agent agentBox obstacle obstacleBox limit =
+    cond (overlap agentBox obstacleBox) (proximityOf limit agent obstacle) P.Never
+
 -- Boxes first (RULES 9.2).
 unfoldable pub conflictOf : Leg → BoundingBox → Leg → BoundingBox → Float → Verdict
 conflictOf agent agentBox obstacle obstacleBox limit =

@@ -10,7 +10,7 @@ use proximity::detect::Proximity;
 use shapes::bounding_box::BoundingBox;
 use shapes::waypoint::Leg;
 ghost use mathlib.Core.Path.{_≡_};
-ghost use Rattle.conflicts.specs.Conflict.{isClosing, closingAt, enteredAt, conflictOf};
+ghost use Rattle.conflicts.specs.Conflict.{isClosing, closingAt, enteredAt, proximityInBoxes, conflictOf};
 
 // No conflict, a conflict, or a refusal and its number.
 pub enum Verdict {
@@ -47,8 +47,24 @@ fn closing_at(limit: f64, agent: Leg, obstacle: Leg, t: TimePoint) -> Verdict
     }
 }
 
-// An entry counts only strictly inside both legs.
-fn entered_at(limit: f64, agent: Leg, obstacle: Leg, t: TimePoint) -> Verdict
+// How near the agent's leg and an obstacle's come, each in its box: never where the boxes do not overlap.
+pub fn proximity_in_boxes(
+    agent: Leg,
+    bounds: BoundingBox,
+    obstacle: Leg,
+    other: BoundingBox,
+    limit: f64,
+) -> Proximity
+    ensures { λ r. ⌜ r ≡ proximityInBoxes agent bounds obstacle other limit ⌝ }
+{
+    if !bounds.overlaps(other) {
+        return Proximity::Never;
+    }
+    detect::detect_proximity(limit, agent, obstacle)
+}
+
+// What an entry at t says: it counts only strictly inside both legs.
+pub fn entered_at(limit: f64, agent: Leg, obstacle: Leg, t: TimePoint) -> Verdict
     ensures { λ r. ⌜ r ≡ enteredAt limit agent obstacle t ⌝ }
 {
     if !agent.is_inside(t) {
@@ -70,15 +86,11 @@ pub fn have_conflict(
 ) -> Verdict
     ensures { λ r. ⌜ r ≡ conflictOf agent bounds obstacle other limit ⌝ }
 {
-    if !bounds.overlaps(other) {
-        return Verdict::Clear;
-    }
-    let proximity = detect::detect_proximity(limit, agent, obstacle);
-    if let Proximity::Refused(n) = proximity {
+    let near = proximity_in_boxes(agent, bounds, obstacle, other, limit);
+    if let Proximity::Refused(n) = near {
         return Verdict::Refused(n);
     }
-    let entry = proximity.entry();
-    let Entry::At(t) = entry else {
+    let Entry::At(t) = near.entry() else {
         return Verdict::Clear;
     };
     entered_at(limit, agent, obstacle, t)

@@ -6,7 +6,7 @@ use mathlib.Core.Path.{_≡_, refl, sym, _∙_}
 use mathlib.Core.Bool.{Bool, true, false, cond}
 use mathlib.Core.List.{[], _∷_}
 use native.Mathlib.Omega.{arith}
-use types.Run.{OneOf, miss}
+use types.Run.{OneOf, hit, miss}
 use denote.Enum.Declared.{tagOf}
 use lib.ListN.{length, getD}
 use Rattle.lists.specs.Listed.{listedTo}
@@ -28,6 +28,10 @@ use Rattle.segments.specs.Segment.{legVerdict, orElse, firstOf, obstacle
 -- What the `else` of `let Verdict::Clear = v else` knows of v.
 abbrev pub Ends : Verdict → Type 0
 Ends v = OneOf (1 ∷ (2 ∷ [])) (tagOf verdict v)
+
+-- A refusal is no clear verdict.
+pub refusal-ends : (n : ℕ) → Ends (Refused n)
+refusal-ends n = hit (1 ∷ (2 ∷ [])) 2 tt
 
 ends : (v rest : Verdict) → Ends v → orElse v rest ≡ v
 ends Clear rest k = absurd (miss (1 ∷ (2 ∷ [])) 0 tt k)

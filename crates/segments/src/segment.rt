@@ -3,11 +3,14 @@ use boxing::boxes;
 use conflicts::conflict;
 use conflicts::conflict::Verdict;
 use obstacles::table;
+use proximity::detect::Entry;
+use proximity::detect::Proximity;
 use shapes::bounding_box::BoundingBox;
 use shapes::waypoint::Leg;
 ghost use mathlib.Core.Path.{_≡_};
 ghost use Rattle.obstacles.specs.Lent.{lentOf, obstaclesWith};
 ghost use Rattle.obstacles.specs.Boxes.{boxIn};
+ghost use Rattle.conflicts.specs.Conflict.{judged};
 ghost use Rattle.segments.specs.Segment.{isDuring, legVerdict, segmentOf};
 
 // Whether a leg is among those of the agent's times: it ends at or after the agent's start and starts at or before its end.
@@ -23,15 +26,15 @@ fn is_during(agent: Leg, leg: Leg) -> bool
     true
 }
 
-// What one leg of an obstacle with this footprint and limit says.
-fn leg_verdict(agent: Leg, bounds: BoundingBox, footprint: f64, limit: f64, leg: Leg) -> Verdict
-    ensures { λ r. ⌜ r ≡ legVerdict agent bounds footprint limit leg ⌝ }
+// How near a leg of an obstacle with this footprint and limit comes: never where it is not among those of the agent's times.
+fn leg_proximity(agent: Leg, bounds: BoundingBox, footprint: f64, limit: f64, leg: Leg) -> Proximity
+    ensures { λ r. ⌜ judged limit agent leg r ≡ legVerdict agent bounds footprint limit leg ⌝ }
 {
     if !is_during(agent, leg) {
-        return Verdict::Clear;
+        return Proximity::Never;
     }
     let around = BoundingBox::for_line(footprint, leg);
-    conflict::have_conflict(agent, bounds, leg, around, limit)
+    conflict::proximity_in_boxes(agent, bounds, leg, around, limit)
 }
 
 // Whether no leg of any obstacle, taken in order, is in conflict with the agent's. The first that is ends the whole walk.
@@ -58,12 +61,20 @@ pub fn is_safe_segment(
         let mut i = starts[o];
         while i < last {
             let leg = table::leg_at(times, xs, ys, i, i + 1);
-            let verdict = leg_verdict(agent, bounds, profile.footprint, limit, leg);
+            i += 1;
+            let near = leg_proximity(agent, bounds, profile.footprint, limit, leg);
+            if let Proximity::Refused(n) = near {
+                found = Verdict::Refused(n);
+                break 'walk;
+            }
+            let Entry::At(t) = near.entry() else {
+                continue;
+            };
+            let verdict = conflict::entered_at(limit, agent, leg, t);
             let Verdict::Clear = verdict else {
                 found = verdict;
                 break 'walk;
             };
-            i += 1;
         }
         o += 1;
     }

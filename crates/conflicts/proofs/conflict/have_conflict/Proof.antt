@@ -1,86 +1,70 @@
--- `conflicts::conflict::have_conflict` meets its contract: its tests and what each answer leads to are the definition's.
+-- `conflicts::conflict::have_conflict` meets its contract: what each answer of proximity leads to is the definition's.
 -- Assumes nothing.
 use mathlib.Core.Path.{_≡_, sym, _∙_}
-use mathlib.Core.Bool.{true}
 use borrow.Author.Needs.{needs}
-use Rattle.shapes.specs.Box.{overlap}
-use Rattle.conflicts.specs.Conflict.{conflictOf}
-use Rattle.floats.proofs.Tests.{found-true, found-false}
-use Rattle.conflicts.proofs.Else.{no-entry, with-entry}
+use Rattle.conflicts.specs.Conflict.{judged, conflictOf}
+use Rattle.conflicts.proofs.Else.{no-entry, with-entry, judged-in-boxes}
 use Rattle.conflicts.proofs.conflict.have_conflict.Statement.{statement}
 use Rattle.conflicts.proofs.conflict.have_conflict.Tie as tie
 
-overlaps-requires : tie.Need-overlaps-requires
-overlaps-requires c κs = search needs
+proximity-in-boxes-requires : tie.Need-proximity-in-boxes-requires
+proximity-in-boxes-requires c κs = search needs
+
+enum-known-near : tie.Need-enum-known-near
+enum-known-near c = search needs
+
+-- The verdict is what the answer of proximity makes of it.
+verdict : (c : tie.After-proximity-in-boxes) →
+    let a = c .before .args in
+    judged (a .limit) (a .agent) (a .obstacle) (c .proximity-in-boxes .result) ≡
+    conflictOf (a .agent) (a .bounds) (a .obstacle) (a .other) (a .limit)
+verdict c =
+    let a = c .before .args in
+    rw (c .proximity-in-boxes .ensures) (judged-in-boxes (a .agent) (a .bounds) (a .obstacle) (a .other) (a .limit))
 
 returns : tie.Need-returns
-unfolding conflictOf
-returns c = rw (found-false (c .before .overlaps .ensures) (c .if1 .taken))
-
-detect-proximity-requires : tie.Need-detect-proximity-requires
-detect-proximity-requires c κs = search needs
-
-enum-known-proximity : tie.Need-enum-known-proximity
-enum-known-proximity c = search needs
-
-boxes-overlap : (c : tie.Else1) → let a = c .before .before .args in overlap (a .bounds) (a .other) ≡ true
-boxes-overlap c = found-true (c .before .overlaps .ensures) (c .if1 .left)
-
-returns-2 : tie.Need-returns-2
-unfolding conflictOf
-returns-2 c =
-    rw (
-      boxes-overlap (c .before .before .before .before),
-      sym (c .before .before .before .detect-proximity .ensures) ∙ c .before .proximity .given .1,
-    )
+returns c = rw (c .before .near .given .1) at (verdict (c .before .before .before))
 
 entry-requires : tie.Need-entry-requires
 entry-requires c κs = search needs
 
-enum-known-entry : tie.Need-enum-known-entry
-enum-known-entry c = search needs
+enum-known-t : tie.Need-enum-known-t
+enum-known-t c = search needs
 
 enum-told : tie.Need-enum-told
 enum-told c = search needs
 
-returns-3 : tie.Need-returns-3
-unfolding conflictOf
-returns-3 c =
+returns-2 : tie.Need-returns-2
+returns-2 c =
     let other = c .before .before .before in
-    let detected = other .before in
-    rw (
-      boxes-overlap (detected .before),
-      sym (detected .detect-proximity .ensures),
-      no-entry _ _ _ _ (other .match .keys2) (sym (c .before .before .entry .ensures) ∙ c .enum-told .given .1),
-    )
+    let a = other .before .before .args in
+    let near = other .before .proximity-in-boxes .result in
+    let missing = sym (c .before .before .entry .ensures) ∙ c .enum-told .given .1 in
+    sym (no-entry (a .limit) (a .agent) (a .obstacle) near (other .match .keys2) missing) ∙ verdict (other .before)
 
 entered-at-requires : tie.Need-entered-at-requires
 entered-at-requires c κs = search needs
 
-returns-4 : tie.Need-returns-4
-unfolding conflictOf
-returns-4 c =
-    let entry = c .before .before in
-    let detected = entry .before .before .before .before in
-    rw (
-      boxes-overlap (detected .before),
-      sym (detected .detect-proximity .ensures),
-      with-entry _ _ _ _ _ (sym (entry .before .before .entry .ensures) ∙ entry .entry2 .given .1),
-    )
-    (c .entered-at .ensures)
+returns-3 : tie.Need-returns-3
+returns-3 c =
+    let entry = c .before .before .before .before in
+    let asked = entry .before .before in
+    let a = asked .before .args in
+    let t = sym (entry .entry .ensures) ∙ c .before .before .t .given .1 in
+    c .entered-at .ensures ∙
+    sym (with-entry (a .limit) (a .agent) (a .obstacle) (asked .proximity-in-boxes .result) _ t) ∙
+    verdict asked
 
 pub have-conflict-spec : {M : Type 1} → statement M
 have-conflict-spec =
     tie.close
     (tie.spec
-    overlaps-requires
+    proximity-in-boxes-requires
+    enum-known-near
     returns
-    detect-proximity-requires
-    enum-known-proximity
-    returns-2
     entry-requires
-    enum-known-entry
+    enum-known-t
     enum-told
-    returns-3
+    returns-2
     entered-at-requires
-    returns-4)
+    returns-3)

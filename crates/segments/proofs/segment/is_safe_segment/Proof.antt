@@ -9,13 +9,15 @@ use lib.ListN.{length}
 use Rattle.lists.specs.Listed.{listedTo}
 use Rattle.shapes.specs.declared.waypoint.Leg.{Leg}
 use Rattle.shapes.specs.declared.waypoint.Waypoint.{Waypoint}
+use Rattle.conflicts.specs.Conflict.{judged}
 use Rattle.conflicts.specs.declared.conflict.Verdict.{Verdict}
 use Rattle.conflicts.specs.declared.conflict.Verdict.the-variants.{Clear}
+use Rattle.conflicts.proofs.Else.{no-entry, with-entry}
 use Rattle.obstacles.specs.Obstacle.{Obstacle, legsOf}
 use Rattle.obstacles.specs.Lent.{lentOf, profileIn, limitIn, waypointIn, obstacleIn, obstaclesWith}
 use Rattle.obstacles.specs.Boxes.{boxIn}
 use Rattle.segments.specs.Segment.{legVerdict, firstOf, obstacleVerdict, segmentOf}
-use Rattle.segments.proofs.Walk.{first-done, first-next, first-here}
+use Rattle.segments.proofs.Walk.{Ends, refusal-ends, first-done, first-next, first-here}
 use Rattle.segments.proofs.Walk.{legs-first-done, legs-first-next, legs-first-here, obstacle-begins}
 use Rattle.segments.proofs.segment.is_safe_segment.Statement.{statement}
 use Rattle.segments.proofs.segment.is_safe_segment.Tie as tie
@@ -85,14 +87,33 @@ add-leg-at c = omega arith
 leg-at-requires : tie.Need-leg-at-requires Inv-loop μ-loop Inv-walk μ-walk
 leg-at-requires c κs = search needs
 
-leg-verdict-requires : tie.Need-leg-verdict-requires Inv-loop μ-loop Inv-walk μ-walk
-leg-verdict-requires c κs = search needs
+add-i : tie.Need-add-i Inv-loop μ-loop Inv-walk μ-walk
+add-i c = omega arith
+
+leg-proximity-requires : tie.Need-leg-proximity-requires Inv-loop μ-loop Inv-walk μ-walk
+leg-proximity-requires c κs = search needs
+
+enum-known-near : tie.Need-enum-known-near Inv-loop μ-loop Inv-walk μ-walk
+enum-known-near c = search needs
+
+entry-requires : tie.Need-entry-requires Inv-loop μ-loop Inv-walk μ-walk
+entry-requires c κs = search needs
+
+enum-known-t : tie.Need-enum-known-t Inv-loop μ-loop Inv-walk μ-walk
+enum-known-t c = search needs
 
 enum-told : tie.Need-enum-told Inv-loop μ-loop Inv-walk μ-walk
 enum-told c = search needs
 
--- What the leg from waypoint i on says, by the table's own numbers.
-leg-says : (c : tie.After-leg-verdict Inv-loop μ-loop Inv-walk μ-walk) →
+-- The leg at hand: what the answer of proximity makes of it,
+abbrev said : tie.After-leg-proximity Inv-loop μ-loop Inv-walk μ-walk → Verdict
+said c =
+    let limit = c .before .before .before .before .before .before .before .before in
+    let a = limit .before .before .before .before .before .before .before .before .before .args in
+    judged (limit .limit-at .result) (a .agent) (c .before .leg-at .result) (c .leg-proximity .result)
+
+-- which is what it says by the table's own numbers.
+leg-says : (c : tie.After-leg-proximity Inv-loop μ-loop Inv-walk μ-walk) →
     let l = c .before .before .before in
     let walked = l .before .before .before .before .before .before .before .before in
     let a = walked .before .before .before .before .before .before .args in
@@ -100,31 +121,101 @@ leg-says : (c : tie.After-leg-verdict Inv-loop μ-loop Inv-walk μ-walk) →
     let p = profileIn (a .numbers .now) (walked .walk .o) in
     let limit = limitIn (a .numbers .now) (walked .walk .o) in
     let i = l .loop .i in
-    c .leg-verdict .result ≡ legVerdict (a .agent) (a .bounds) (p .footprint) limit (record { start = w i; end = w (i + 1) })
+    said c ≡ legVerdict (a .agent) (a .bounds) (p .footprint) limit (record { start = w i; end = w (i + 1) })
 leg-says c =
     let limit = c .before .before .before .before .before .before .before .before in
-    c .leg-verdict .ensures ∙ rw (limit .before .profile-at .ensures, limit .limit-at .ensures, c .before .leg-at .ensures)
+    c .leg-proximity .ensures ∙ rw (limit .before .profile-at .ensures, limit .limit-at .ensures, c .before .leg-at .ensures)
 
-add-i : tie.Need-add-i Inv-loop μ-loop Inv-walk μ-walk
-add-i c = omega arith
-
-loop-less : tie.Need-loop-less Inv-loop μ-loop Inv-walk μ-walk
-loop-less c = omega arith
-
-loop-again : tie.Need-loop-again Inv-loop μ-loop Inv-walk μ-walk
-loop-again c =
-    let v = c .before .before in
-    let more = v .before .before .loop-test .taken in
-    let l = v .before .before .before in
+-- Where it is clear, the walk over the legs goes on with the next;
+goes-on : (c : tie.After-leg-proximity Inv-loop μ-loop Inv-walk μ-walk) → said c ≡ Clear →
+    let l = c .before .before .before in
     let walked = l .before .before .before .before .before .before .before .before in
     let a = walked .before .before .before .before .before .before .args in
     let w : ℕ → Waypoint = waypointIn (a .times .now) (a .xs .now) (a .ys .now) in
     let p = profileIn (a .numbers .now) (walked .walk .o) in
-    let limit = limitIn (a .numbers .now) (walked .walk .o) in
-    let says : Leg → Verdict = legVerdict (a .agent) (a .bounds) (p .footprint) limit in
+    let says : Leg → Verdict = legVerdict (a .agent) (a .bounds) (p .footprint) (limitIn (a .numbers .now) (walked .walk .o)) in
+    let lent = lentOf (a .starts .now) (a .numbers .now) (a .times .now) (a .xs .now) (a .ys .now) in
+    firstOf says (legsOf (listedTo w (l .before .before .last-of .result + 1) (l .loop .i + 1))) ≡
+    obstacleVerdict (a .agent) (a .bounds) (obstacleIn lent (boxIn (a .boxes .now)) (walked .walk .o))
+goes-on c e =
+    let l = c .before .before .before in
+    let walked = l .before .before .before .before .before .before .before .before in
+    let a = walked .before .before .before .before .before .before .args in
+    let w : ℕ → Waypoint = waypointIn (a .times .now) (a .xs .now) (a .ys .now) in
+    let p = profileIn (a .numbers .now) (walked .walk .o) in
+    let says : Leg → Verdict = legVerdict (a .agent) (a .bounds) (p .footprint) (limitIn (a .numbers .now) (walked .walk .o)) in
     let last = l .before .before .last-of .result in
-    let clear = sym (leg-says v) ∙ c .enum-told .given .1 in
-    (l .loop .inv .0, sym (legs-first-next says w last (l .loop .i) more clear) ∙ l .loop .inv .1)
+    let more = c .before .before .loop-test .taken in
+    sym (legs-first-next says w last (l .loop .i) more (sym (leg-says c) ∙ e)) ∙ l .loop .inv .1
+
+-- any other answer is that of the whole walk.
+ends-here : (c : tie.After-leg-proximity Inv-loop μ-loop Inv-walk μ-walk) (v : Verdict) → Ends v → v ≡ said c →
+    let walked = c .before .before .before .before .before .before .before .before .before .before .before in
+    let a = walked .before .before .before .before .before .before .args in
+    let lent = lentOf (a .starts .now) (a .numbers .now) (a .times .now) (a .xs .now) (a .ys .now) in
+    v ≡ segmentOf (a .agent) (a .bounds) (obstaclesWith lent (boxIn (a .boxes .now)))
+ends-here c v k e =
+    let l = c .before .before .before in
+    let walked = l .before .before .before .before .before .before .before .before in
+    let more = l .before .before .before .before .before .before .before .walk-test .taken in
+    let a = walked .before .before .before .before .before .before .args in
+    let w : ℕ → Waypoint = waypointIn (a .times .now) (a .xs .now) (a .ys .now) in
+    let p = profileIn (a .numbers .now) (walked .walk .o) in
+    let limit = limitIn (a .numbers .now) (walked .walk .o) in
+    let legSays : Leg → Verdict = legVerdict (a .agent) (a .bounds) (p .footprint) limit in
+    let lent = lentOf (a .starts .now) (a .numbers .now) (a .times .now) (a .xs .now) (a .ys .now) in
+    let f : ℕ → Obstacle = obstacleIn lent (boxIn (a .boxes .now)) in
+    let says : Obstacle → Verdict = obstacleVerdict (a .agent) (a .bounds) in
+    let last = l .before .before .last-of .result in
+    let on = c .before .before .loop-test .taken in
+    let own = legs-first-here legSays w last (l .loop .i) v k on (e ∙ leg-says c) in
+    first-here says f (length (a .starts .now)) (walked .walk .o) v k more (own ∙ l .loop .inv .1) ∙ walked .walk .inv .1
+
+loop-less : tie.Need-loop-less Inv-loop μ-loop Inv-walk μ-walk
+loop-less c = omega arith
+
+-- A leg without an entry is clear,
+missing-says : (c : tie.After-enum-told Inv-loop μ-loop Inv-walk μ-walk) → said (c .before .before .before .before) ≡ Clear
+missing-says c =
+    let other = c .before .before .before in
+    let near = other .before in
+    let limit = near .before .before .before .before .before .before .before .before in
+    let a = limit .before .before .before .before .before .before .before .before .before .args in
+    let missing = sym (c .before .before .entry .ensures) ∙ c .enum-told .given .1 in
+    let answer = near .leg-proximity .result in
+    no-entry (limit .limit-at .result) (a .agent) (near .before .leg-at .result) answer (other .match .keys2) missing
+
+loop-again : tie.Need-loop-again Inv-loop μ-loop Inv-walk μ-walk
+loop-again c =
+    let near = c .before .before .before .before in
+    (near .before .before .before .loop .inv .0, goes-on near (missing-says c))
+
+entered-at-requires : tie.Need-entered-at-requires Inv-loop μ-loop Inv-walk μ-walk
+entered-at-requires c κs = search needs
+
+-- and one with an entry says what the entry does.
+entry-says : (c : tie.After-entered-at Inv-loop μ-loop Inv-walk μ-walk) →
+    c .entered-at .result ≡ said (c .before .before .before .before .before .before)
+entry-says c =
+    let entry = c .before .before .before .before in
+    let near = entry .before .before in
+    let limit = near .before .before .before .before .before .before .before .before in
+    let a = limit .before .before .before .before .before .before .before .before .before .args in
+    let t = sym (entry .entry .ensures) ∙ c .before .before .t .given .1 in
+    c .entered-at .ensures ∙
+    sym (with-entry (limit .limit-at .result) (a .agent) (near .before .leg-at .result) (near .leg-proximity .result) _ t)
+
+enum-told-2 : tie.Need-enum-told-2 Inv-loop μ-loop Inv-walk μ-walk
+enum-told-2 c = search needs
+
+loop-less-2 : tie.Need-loop-less-2 Inv-loop μ-loop Inv-walk μ-walk
+loop-less-2 c = omega arith
+
+loop-again-2 : tie.Need-loop-again-2 Inv-loop μ-loop Inv-walk μ-walk
+loop-again-2 c =
+    let entered = c .before .before in
+    let near = entered .before .before .before .before .before .before in
+    (near .before .before .before .loop .inv .0, goes-on near (sym (entry-says entered) ∙ c .enum-told2 .given .1))
 
 add-o : tie.Need-add-o Inv-loop μ-loop Inv-walk μ-walk
 add-o c = omega arith
@@ -160,24 +251,13 @@ returns c =
 
 returns-2 : tie.Need-returns-2 Inv-loop μ-loop Inv-walk μ-walk
 returns-2 c =
-    let v = c .before in
-    let l = v .before .before .before in
-    let walked = l .before .before .before .before .before .before .before .before in
-    let more = l .before .before .before .before .before .before .before .walk-test .taken in
-    let a = walked .before .before .before .before .before .before .args in
-    let w : ℕ → Waypoint = waypointIn (a .times .now) (a .xs .now) (a .ys .now) in
-    let p = profileIn (a .numbers .now) (walked .walk .o) in
-    let limit = limitIn (a .numbers .now) (walked .walk .o) in
-    let legSays : Leg → Verdict = legVerdict (a .agent) (a .bounds) (p .footprint) limit in
-    let lent = lentOf (a .starts .now) (a .numbers .now) (a .times .now) (a .xs .now) (a .ys .now) in
-    let f : ℕ → Obstacle = obstacleIn lent (boxIn (a .boxes .now)) in
-    let says : Obstacle → Verdict = obstacleVerdict (a .agent) (a .bounds) in
-    let last = l .before .before .last-of .result in
-    let found = v .leg-verdict .result in
-    let on = v .before .before .loop-test .taken in
-    let own = legs-first-here legSays w last (l .loop .i) found (c .match .keys2) on (leg-says v) in
-    first-here says f (length (a .starts .now)) (walked .walk .o) found (c .match .keys2) more (own ∙ l .loop .inv .1) ∙
-    walked .walk .inv .1
+    let near = c .before .before .before in
+    ends-here near _ (refusal-ends (c .before .near .given .0 .0)) (rw (c .before .near .given .1))
+
+returns-3 : tie.Need-returns-3 Inv-loop μ-loop Inv-walk μ-walk
+returns-3 c =
+    let entered = c .before in
+    ends-here (entered .before .before .before .before .before .before) _ (c .match3 .keys2) (entry-says entered)
 
 pub is-safe-segment-spec : {M : Type 1} → statement M
 is-safe-segment-spec =
@@ -199,13 +279,21 @@ is-safe-segment-spec =
     loop-holds
     add-leg-at
     leg-at-requires
-    leg-verdict-requires
-    enum-told
     add-i
+    leg-proximity-requires
+    enum-known-near
+    entry-requires
+    enum-known-t
+    enum-told
     loop-less
     loop-again
+    entered-at-requires
+    enum-told-2
+    loop-less-2
+    loop-again-2
     add-o
     walk-less
     walk-again
     returns
-    returns-2)
+    returns-2
+    returns-3)
