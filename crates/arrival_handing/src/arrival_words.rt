@@ -10,9 +10,6 @@ ghost use Rattle.lists.specs.Outcome.{Handed};
 ghost use Rattle.search.specs.declared.arrival_times.Arrivals.the-variants.{Listed};
 ghost use Rattle.search.specs.Words.{wordsOf, listingOutcome};
 
-// The refusal of a room that is too small (docs/RULES.md, 4.12).
-const NO_ROOM: u64 = 12;
-
 // How many of the first `count` places a list has.
 fn held(list: &[i64], count: usize) -> usize
     ensures { λ r. ⌜ r ≡ min count (length (now (list .entry))) ⌝ }
@@ -41,7 +38,7 @@ fn give_listed(count: usize, sweeps: usize, list: &[i64], out: &mut [u64]) -> u6
 {
     let n = held(list, count);
     if out.len() < 2 + n {
-        return words::refuse(out, NO_ROOM);
+        return words::refuse(out, refusals::NO_ROOM);
     }
     out[0] = count as u64;
     out[1] = sweeps as u64;

@@ -6,9 +6,6 @@ use root::nearest::Root;
 ghost use Rattle.lists.specs.Outcome.{Handed};
 ghost use Rattle.root.specs.Root.{rootOf, rootOutcome};
 
-// The refusal of what has no root (docs/RULES.md, 4.1).
-const NUMBER: u64 = 1;
-
 // The root of x, rounded to the nearest double.
 #[no_mangle]
 pub extern "C" fn igelbert_square_root(x: f64, out: &mut [u64]) -> u64
@@ -16,7 +13,7 @@ pub extern "C" fn igelbert_square_root(x: f64, out: &mut [u64]) -> u64
 {
     let r = nearest::square_root(x);
     let Root::Of(y) = r else {
-        return words::refuse(out, NUMBER);
+        return words::refuse(out, refusals::NUMBER);
     };
     let w = [word::of_double(y)];
     words::hand_over(out, &w)
