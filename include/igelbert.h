@@ -11,8 +11,8 @@
  * per second, seconds only where a comment says so.
  *
  * `out` points to `out_len` words that nothing else uses during the call. The calls are compiled for
- * x86-64; link libplan_exports.a, libgeometry_exports.a and libnumber_exports.a, which
- * tools/static-libraries writes to target/staticlib.
+ * x86-64; link libplan_exports.a, libgeometry_exports.a, libnumber_exports.a and, for a year's holds,
+ * libhold_exports.a, which tools/static-libraries writes to target/staticlib.
  */
 #ifndef IGELBERT_H
 #define IGELBERT_H
@@ -27,7 +27,7 @@
 #define IGELBERT_VERSION_PATCH 0
 #define IGELBERT_VERSION "0.1.0"
 
-/* The refusals by name (docs/RULES.md, 4.1 to 4.12). */
+/* The refusals by name (docs/RULES.md, 4.1 to 4.12, 4.16 and 4.17). */
 enum igelbert_refusal {
     IGELBERT_NUMBER = 1,
     IGELBERT_SHAPE = 2,
@@ -40,7 +40,9 @@ enum igelbert_refusal {
     IGELBERT_LATE = 9,
     IGELBERT_FULL = 10,
     IGELBERT_SPENT = 11,
-    IGELBERT_NO_ROOM = 12
+    IGELBERT_NO_ROOM = 12,
+    IGELBERT_LINE = 14,
+    IGELBERT_OVERFLOW = 15
 };
 
 #ifdef __cplusplus
@@ -188,6 +190,42 @@ uint64_t igelbert_linear_paths(double footprint, double follow, int64_t t0, doub
  * prints the number as `refused N`. 12 also where `out` is too small for the text; 164,517 bytes are
  * enough. */
 uint64_t igelbert_plan(const uint8_t *stream, size_t stream_len, uint8_t *out, size_t out_len);
+
+/* A year's holding time (docs/RULES.md, section 21): begun in a memory that the caller lends, fed
+ * with the text part by part, and finished. Between the calls nothing is kept but that memory: it may
+ * be copied, and several years may go on side by side. It is the caller's to keep and not to write
+ * to. One text, whose bytes come from wherever they do:
+ *
+ *     uint64_t memory[IGELBERT_HOLDS_WORDS];
+ *     uint8_t report[IGELBERT_HOLDS_REPORT];
+ *     uint64_t refused = igelbert_holds_begin(memory, IGELBERT_HOLDS_WORDS);
+ *     while (!refused && (len = read(file, part, sizeof part)) > 0)
+ *         refused = igelbert_holds_feed(part, len, memory, IGELBERT_HOLDS_WORDS);
+ *     if (!refused)
+ *         refused = igelbert_holds_finish(memory, IGELBERT_HOLDS_WORDS, report, sizeof report);
+ */
+
+/* The words of that memory, and the bytes that are enough for a report. */
+#define IGELBERT_HOLDS_WORDS 197
+#define IGELBERT_HOLDS_REPORT 5386
+
+/* Begins a year: no line yet. A memory of more words is zero behind the first 197. Refused 12: the
+ * memory has fewer; every word is then zero. */
+uint64_t igelbert_holds_begin(uint64_t *memory, size_t memory_len);
+
+/* Feeds the next part of the text, of any length, 0 too; how it is cut makes no difference. Refused,
+ * with every word of the memory zero: 14: a line is malformed, as soon as that is known, or is the
+ * 100,001st; 15: with a line its crew's total leaves the signed numbers of 64 bits; 2: the memory is
+ * not that of a year that was begun, or was refused before. */
+uint64_t igelbert_holds_feed(const uint8_t *part, size_t part_len, uint64_t *memory,
+    size_t memory_len);
+
+/* The report where the text ends here, as the lines that the program `holds` prints: 0, with the text
+ * in `out`, one byte a letter, and zeros behind it; the text has no zero byte. The memory stays as it
+ * is: the year may be fed on, and finished again. Refused, with every byte of `out` zero: 14 and 15
+ * for a last line without a newline; 2 as above; 12: `out` is too small for the text. */
+uint64_t igelbert_holds_finish(const uint64_t *memory, size_t memory_len, uint8_t *out,
+    size_t out_len);
 
 #ifdef __cplusplus
 }

@@ -128,6 +128,9 @@ class Gate(unittest.TestCase):
         self.command("plan", "cat examples/one.answer")
         self.file("examples/one.txt")
         self.file("examples/one.answer", "ok\n")
+        self.command("holds", "cat examples/year.report")
+        self.file("examples/year.holds")
+        self.file("examples/year.report", "ok 0\n")
         for crate in ("a", "b"):
             self.file(f"crates/{crate}/src/lib.rt")
 
@@ -161,14 +164,22 @@ class Gate(unittest.TestCase):
         self.assertEqual(ended.returncode, 0, ended.stderr)
         self.assertTrue(ended.stdout.endswith(self.VERDICT + "\n"), ended.stdout)
         self.assertRegex(ended.stdout, r"\n== the gate took \d+ s\n")
-        steps = ("python3 tools/check_docs.py", "rt fmt --check", "rt ci", "python3 tools/refusals.py", "plan examples/one.txt")
-        self.assertLessEqual(set(steps), set(self.called()))
+        steps = ("python3 tools/check_docs.py", "rt fmt --check", "rt ci", "python3 tools/refusals.py")
+        self.assertLessEqual({*steps, "plan examples/one.txt", "holds examples/year.holds"}, set(self.called()))
 
     def test_a_failure_ends_before_the_verdict(self):
         self.command("bin/python3", '[ "$1" != tools/replay_plans.py ]')
         ended = self.gate()
         self.assertNotEqual(ended.returncode, 0)
         self.assertNotIn(self.VERDICT, ended.stdout)
+
+    def test_an_example_that_is_answered_otherwise(self):
+        for name in ("plan", "holds"):
+            with self.subTest(name):
+                self.command(name, "echo refused 14")
+                ended = self.gate()
+                self.assertNotEqual(ended.returncode, 0)
+                self.assertNotIn(self.VERDICT, ended.stdout)
 
     def test_the_source_of_the_rust_where_it_must_be(self):
         self.command("tools/rust-source", "exit 1")

@@ -20,7 +20,13 @@ from house import Fault, line_of
 
 PAGE = "docs/BELIEVE.md"
 # The contracts that people meet: the calls for C and Rust, and what the programs print.
-CALLS = ("crates/*_exports/src/*.rt", "crates/answering/src/*.rt", "crates/plan/src/*.rt")
+CALLS = (
+    "crates/*_exports/src/*.rt",
+    "crates/answering/src/*.rt",
+    "crates/plan/src/*.rt",
+    "crates/hold_year/src/*.rt",
+    "crates/holds/src/*.rt",
+)
 
 ROW = re.compile(r"^\| (`crates/[^|]*) \| (\d+) \|", re.M)
 STANDS_IN = re.compile(r"^\| `(crates/[^`|]*)`[^|]* \| [^|]* \| ((?:(?:, )?`[\w-]+` of `crates/[^`|]*`)+) \|$", re.M)

@@ -3,7 +3,12 @@
 use std::path::PathBuf;
 use std::{env, fs, process};
 
-const LIBRARIES: [&str; 3] = ["number_exports", "geometry_exports", "plan_exports"];
+const LIBRARIES: [&str; 4] = [
+    "number_exports",
+    "geometry_exports",
+    "plan_exports",
+    "hold_exports",
+];
 
 fn main() {
     let package =

@@ -1,5 +1,4 @@
 pub mod Rows
 pub mod Asked
 pub mod Roomed
-pub mod Printed
 pub mod Shown

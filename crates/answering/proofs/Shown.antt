@@ -14,11 +14,10 @@ use Rattle.plans.specs.Plan.{Path, Plan, Planned, Refused}
 use Rattle.actions.specs.declared.action.SafeAction.{SafeAction}
 use Rattle.actions.specs.declared.action.SafeAction.the-variants.{Move, Wait}
 use Rattle.requests.specs.Asked.{streamPlan}
-use Rattle.wording.specs.Lines.{okLine, pathLine}
+use Rattle.wording.specs.Lines.{okLine, pathLine, printed}
 use Rattle.wording.specs.Shown.{isShown}
 use Rattle.wording.proofs.Shown.{Shown, both, ok-shown, path-shown, move-shown, wait-shown, refused-shown}
-use Rattle.answering.specs.Text.{actionText, actionsText, pathText, pathsText, planReply, roomed, streamReply}
-use Rattle.answering.specs.Text.{printed, streamText}
+use Rattle.answering.specs.Text.{actionText, actionsText, pathText, pathsText, planReply, roomed, streamReply, streamText}
 
 action-shown : (a : SafeAction) → Shown (actionText a)
 unfolding actionText

@@ -13,7 +13,7 @@ use Rattle.plans.specs.Plan.{Path, Plan, Planned, Refused, allActions}
 use Rattle.actions.specs.declared.action.SafeAction.{SafeAction}
 use Rattle.actions.specs.declared.action.SafeAction.the-variants.{Move, Wait}
 use Rattle.requests.specs.Asked.{streamPlan}
-use Rattle.wording.specs.Lines.{okLine, pathLine, moveLine, waitLine, refusedLine}
+use Rattle.wording.specs.Lines.{okLine, pathLine, moveLine, waitLine, printed}
 
 -- The line of an action (RULES 15.3, 15.4).
 unfoldable pub actionText : SafeAction → List ℕ
@@ -46,11 +46,6 @@ roomed (Refused n) = Refused n
 -- The reply to a stream: a text, or the number of a refusal.
 unfoldable pub streamReply : List ℕ → Outcome
 streamReply s = planReply (roomed (streamPlan s))
-
--- A text is printed as it is, a refusal as its one line (RULES 15.5, 15.6).
-unfoldable pub printed : Outcome → List ℕ
-printed (Gives text) = text
-printed (Refuses n) = refusedLine n
 
 -- What `plan` prints.
 unfoldable pub streamText : List ℕ → List ℕ

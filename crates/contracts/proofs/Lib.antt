@@ -41,6 +41,10 @@ pub mod streams
 pub mod requests
 pub mod texts
 pub mod wording
+pub mod hold_lines
+pub mod hold_figures
+pub mod hold_report
+pub mod hold_year
 pub mod telling
 pub mod answering
 pub mod handing
@@ -51,3 +55,4 @@ pub mod taking
 pub mod geometry_exports
 pub mod plan_exports
 pub mod number_exports
+pub mod hold_exports

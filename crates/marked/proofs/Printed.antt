@@ -11,9 +11,8 @@ use Rattle.streams.specs.Crossing.{crossingRequest, crossingStream}
 use Rattle.streams.proofs.Crossing.{crosses}
 use Rattle.texts.specs.Letters.{bytesOf}
 use Rattle.texts.specs.Numerals.{glyph, decimalBy, decimalOf, signedText, hexBy, hexOf, countField, timeField, bitsField}
-use Rattle.wording.specs.Lines.{line, okLine, pathLine, moveLine, waitLine}
-use Rattle.answering.specs.Text.{actionText, actionsText, pathText, pathsText, planReply, roomed, streamReply}
-use Rattle.answering.specs.Text.{printed, streamText}
+use Rattle.wording.specs.Lines.{line, okLine, pathLine, moveLine, waitLine, printed}
+use Rattle.answering.specs.Text.{actionText, actionsText, pathText, pathsText, planReply, roomed, streamReply, streamText}
 use Rattle.marked.specs.Marked.{planWith, crossingPlan}
 
 -- The request asks for the plan of P10.

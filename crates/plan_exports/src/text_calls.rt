@@ -1,6 +1,6 @@
 // The reply to a request stream, whose text the program `plan` prints.
 use answering::reply;
-use texts::room::Told;
+use texts::room;
 ghost use Rattle.lists.specs.Outcome.{Handed};
 ghost use Rattle.answering.specs.Text.{streamReply};
 
@@ -9,9 +9,5 @@ ghost use Rattle.answering.specs.Text.{streamReply};
 pub extern "C" fn igelbert_plan(stream: &[u8], out: &mut [u8]) -> u64
     ensures { λ r. ⌜ Handed (streamReply (now (stream .entry))) (now (out .entry)) (now (out .exit)) r ⌝ }
 {
-    let told = reply::reply(stream, out);
-    match told {
-        Told::Text(_length) => 0,
-        Told::Refused(n) => n,
-    }
+    room::told_number(reply::reply(stream, out))
 }

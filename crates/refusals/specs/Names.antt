@@ -37,3 +37,9 @@ SPENT = 11
 
 abbrev pub NO_ROOM : ℕ
 NO_ROOM = 12
+
+abbrev pub LINE : ℕ
+LINE = 14
+
+abbrev pub OVERFLOW : ℕ
+OVERFLOW = 15

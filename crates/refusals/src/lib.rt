@@ -35,3 +35,9 @@ pub const SPENT: u64 = 11;
 
 // The answer does not fit the lent room (RULES 4.12).
 pub const NO_ROOM: u64 = 12;
+
+// A line of a year's holds is malformed, or is one too many (RULES 4.16).
+pub const LINE: u64 = 14;
+
+// A crew's running total leaves the signed numbers of 64 bits (RULES 4.17).
+pub const OVERFLOW: u64 = 15;

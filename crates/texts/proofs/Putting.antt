@@ -114,6 +114,17 @@ pub record Goes (rest room : List ℕ) (at : ℕ) (whole lent : List ℕ) (from 
 pub goes-all : (whole lent : List ℕ) (from : ℕ) → Goes whole lent from whole lent from
 goes-all whole lent from = record { same-room = refl; same-place = refl; kept = refl }
 
+-- Past the room's end every place is as good as another.
+pub goes-past : (whole lent : List ℕ) (at from : ℕ) → length lent < at → length lent < from → Goes whole lent at whole lent from
+goes-past whole lent at from h k =
+    record {
+      same-room = bytes-past lent at whole (omega arith) ∙ sym (bytes-past lent from whole (omega arith));
+      same-place =
+          reached-short (length lent) at (length whole) (omega arith) ∙
+          sym (reached-short (length lent) from (length whole) (omega arith));
+      kept = refl;
+    }
+
 pub goes-on : {xs ys room left whole lent : List ℕ} {at r from : ℕ} →
     Goes (xs ++ ys) room at whole lent from → PutText xs room at left r → Goes ys left r whole lent from
 goes-on {xs} {ys} g p =

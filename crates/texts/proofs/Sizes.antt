@@ -28,6 +28,11 @@ digits-short (suc k) n h = by (ltb n 10) refl (λ l. digits-short k (n / 10) l)
 pub word-digits : (n : ℕ) → n < 2 ^ 64 → length (decimalOf n) ≤ 20
 word-digits n h = digits-short 19 n (omega arith)
 
+-- The same of a count, with the space in front of it.
+pub count-digits : (k n : ℕ) → n < 10 ^ suc k → length (countField n) ≤ suc (suc k)
+unfolding countField
+count-digits k n h = omega (arith, digits-short k n h)
+
 pub count-short : (n : ℕ) → n < 2 ^ 64 → length (countField n) ≤ 21
 unfolding countField
 count-short n h = omega (arith, word-digits n h)

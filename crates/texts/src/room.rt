@@ -2,7 +2,7 @@
 ghost use mathlib.Core.Path.{_≡_};
 ghost use mathlib.Core.List.{_∷_, []};
 ghost use Rattle.lists.specs.Outcome.{Refuses, wiped};
-ghost use Rattle.texts.specs.Room.{PutText, SettledText, Tells};
+ghost use Rattle.texts.specs.Room.{PutText, SettledText, Tells, toldNumber};
 
 // How long a text is, or a refusal and its number.
 pub enum Told {
@@ -19,6 +19,22 @@ pub fn put_byte(out: &mut [u8], at: usize, b: u8) -> usize
         return at + 1;
     }
     out.len() + 1
+}
+
+// Puts a word byte by byte. An empty one answers `at`, or the place one past the room's end where `at` is further.
+pub fn put_word(out: &mut [u8], at: usize, word: &[u8]) -> usize
+    ensures { λ r. ⌜ PutText (now (word .entry)) (now (out .entry)) at (now (out .exit)) r ⌝ }
+{
+    let mut next = at;
+    if out.len() < at {
+        next = out.len() + 1;
+    }
+    let mut i = 0;
+    while i < word.len() {
+        next = put_byte(out, next, word[i]);
+        i += 1;
+    }
+    next
 }
 
 // Sets every byte at or after `from` to 0.
@@ -50,4 +66,14 @@ pub fn refuse(out: &mut [u8], number: u64) -> Told
 {
     wipe_from(out, 0);
     Told::Refused(number)
+}
+
+// The number that is handed back for what is told: 0 for a text.
+pub fn told_number(told: Told) -> u64
+    ensures { λ r. ⌜ r ≡ toldNumber told ⌝ }
+{
+    match told {
+        Told::Text(_length) => 0,
+        Told::Refused(n) => n,
+    }
 }

@@ -10,7 +10,7 @@ use Rattle.texts.specs.Numerals.{countField, timeField, bitsField}
 use Rattle.texts.proofs.Sizes.{count-short, time-short, bits-length}
 use Rattle.wording.specs.Lines.{line, okLine, pathLine, moveLine, waitLine, refusedLine}
 
-length-line : (word fields : List ℕ) → length (word ++ (fields ++ (10 ∷ []))) ≡ length word + length fields + 1
+pub length-line : (word fields : List ℕ) → length (word ++ (fields ++ (10 ∷ []))) ≡ length word + length fields + 1
 length-line word fields = rw (length-append word (fields ++ (10 ∷ [])), length-append fields (10 ∷ [])) (omega arith)
 
 pub ok-short : (h t s p : ℕ) → h < 2 ^ 64 → t < 2 ^ 64 → s < 2 ^ 64 → p < 2 ^ 64 → length (okLine h t s p) ≤ 87

@@ -1,8 +1,9 @@
--- The lines of `plan` (RULES 15.1 to 15.8).
+-- The lines of `plan`, and what is printed of an answer (RULES 15.1 to 15.8).
 -- Assumes nothing.
 use Prim.Native.Nat.{ℕ}
 use Prim.Native.String.{String}
 use mathlib.Core.List.{List, [], _∷_, _++_}
+use Rattle.lists.specs.Outcome.{Outcome, Gives, Refuses}
 use Rattle.texts.specs.Letters.{bytesOf}
 use Rattle.texts.specs.Numerals.{countField, timeField, bitsField}
 
@@ -29,3 +30,8 @@ waitLine obstacle end = line "wait" (countField obstacle ++ timeField end)
 -- The number of a refusal (RULES 15.5).
 unfoldable pub refusedLine : ℕ → List ℕ
 refusedLine number = line "refused" (countField number)
+
+-- A text is printed as it is, a refusal as its one line (RULES 15.5, 15.6).
+unfoldable pub printed : Outcome → List ℕ
+printed (Gives text) = text
+printed (Refuses n) = refusedLine n

@@ -1,29 +1,13 @@
 // The lines, each a word with its fields (docs/RULES.md, 15.1 to 15.5).
 use texts::numerals;
 use texts::room;
-ghost use Prim.Native.Nat.{_<_};
-ghost use lib.ListN.{length};
 ghost use Rattle.texts.specs.Room.{PutText};
 ghost use Rattle.wording.specs.Lines.{okLine, pathLine, moveLine, waitLine, refusedLine};
-
-// Puts a word. An empty one would leave a place far past the room's end as it is.
-fn put_word(out: &mut [u8], at: usize, word: &[u8]) -> usize
-    requires { ⌜ 0 < length (now word) ⌝ }
-    ensures { λ r. ⌜ PutText (now (word .entry)) (now (out .entry)) at (now (out .exit)) r ⌝ }
-{
-    let mut next = at;
-    let mut i = 0;
-    while i < word.len() {
-        next = room::put_byte(out, next, word[i]);
-        i += 1;
-    }
-    next
-}
 
 pub fn put_ok(out: &mut [u8], hints: u64, times: u64, sweeps: u64, paths: u64) -> usize
     ensures { λ r. ⌜ PutText (okLine hints times sweeps paths) (now (out .entry)) 0 (now (out .exit)) r ⌝ }
 {
-    let mut at = put_word(out, 0, b"ok");
+    let mut at = room::put_word(out, 0, b"ok");
     at = numerals::put_count(out, at, hints);
     at = numerals::put_count(out, at, times);
     at = numerals::put_count(out, at, sweeps);
@@ -34,7 +18,7 @@ pub fn put_ok(out: &mut [u8], hints: u64, times: u64, sweeps: u64, paths: u64) -
 pub fn put_path(out: &mut [u8], at: usize, arrival: u64, pops: u64, hold: u64) -> usize
     ensures { λ r. ⌜ PutText (pathLine arrival pops hold) (now (out .entry)) at (now (out .exit)) r ⌝ }
 {
-    let mut next = put_word(out, at, b"path");
+    let mut next = room::put_word(out, at, b"path");
     next = numerals::put_time(out, next, arrival);
     next = numerals::put_count(out, next, pops);
     next = numerals::put_time(out, next, hold);
@@ -44,7 +28,7 @@ pub fn put_path(out: &mut [u8], at: usize, arrival: u64, pops: u64, hold: u64) -
 pub fn put_move(out: &mut [u8], at: usize, time: u64, x: u64, y: u64) -> usize
     ensures { λ r. ⌜ PutText (moveLine time x y) (now (out .entry)) at (now (out .exit)) r ⌝ }
 {
-    let mut next = put_word(out, at, b"move");
+    let mut next = room::put_word(out, at, b"move");
     next = numerals::put_time(out, next, time);
     next = numerals::put_bits(out, next, x);
     next = numerals::put_bits(out, next, y);
@@ -54,7 +38,7 @@ pub fn put_move(out: &mut [u8], at: usize, time: u64, x: u64, y: u64) -> usize
 pub fn put_wait(out: &mut [u8], at: usize, obstacle: u64, end: u64) -> usize
     ensures { λ r. ⌜ PutText (waitLine obstacle end) (now (out .entry)) at (now (out .exit)) r ⌝ }
 {
-    let mut next = put_word(out, at, b"wait");
+    let mut next = room::put_word(out, at, b"wait");
     next = numerals::put_count(out, next, obstacle);
     next = numerals::put_time(out, next, end);
     room::put_byte(out, next, b'\n')
@@ -63,7 +47,7 @@ pub fn put_wait(out: &mut [u8], at: usize, obstacle: u64, end: u64) -> usize
 pub fn put_refused(out: &mut [u8], number: u64) -> usize
     ensures { λ r. ⌜ PutText (refusedLine number) (now (out .entry)) 0 (now (out .exit)) r ⌝ }
 {
-    let at = put_word(out, 0, b"refused");
+    let at = room::put_word(out, 0, b"refused");
     let end = numerals::put_count(out, at, number);
     room::put_byte(out, end, b'\n')
 }

@@ -247,6 +247,19 @@ extern "C" {
         out_len: usize,
     ) -> u64;
     fn igelbert_plan(stream: *const u8, stream_len: usize, out: *mut u8, out_len: usize) -> u64;
+    fn igelbert_holds_begin(memory: *mut u64, memory_len: usize) -> u64;
+    fn igelbert_holds_feed(
+        part: *const u8,
+        part_len: usize,
+        memory: *mut u64,
+        memory_len: usize,
+    ) -> u64;
+    fn igelbert_holds_finish(
+        memory: *const u64,
+        memory_len: usize,
+        out: *mut u8,
+        out_len: usize,
+    ) -> u64;
 }
 
 // SAFETY, of each call below: each pointer and its length are those of one slice, and those written
@@ -542,6 +555,19 @@ pub fn linear_paths(
 
 pub fn plan(stream: &[u8], out: &mut [u8]) -> u64 {
     unsafe { igelbert_plan(stream.as_ptr(), stream.len(), out.as_mut_ptr(), out.len()) }
+}
+
+pub fn holds_begin(memory: &mut [u64]) -> u64 {
+    unsafe { igelbert_holds_begin(memory.as_mut_ptr(), memory.len()) }
+}
+
+pub fn holds_feed(part: &[u8], memory: &mut [u64]) -> u64 {
+    let (memory, len) = (memory.as_mut_ptr(), memory.len());
+    unsafe { igelbert_holds_feed(part.as_ptr(), part.len(), memory, len) }
+}
+
+pub fn holds_finish(memory: &[u64], out: &mut [u8]) -> u64 {
+    unsafe { igelbert_holds_finish(memory.as_ptr(), memory.len(), out.as_mut_ptr(), out.len()) }
 }
 
 pub fn stationary_proximity(

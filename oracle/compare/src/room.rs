@@ -1,5 +1,6 @@
 //! A lent room and what must stand in it: the number handed back and every word are compared.
 
+use planner::generate::dice::Dice;
 use terms::Fault;
 
 /// What a call is to hand over: an answer's words, or the number of a refusal.
@@ -98,4 +99,26 @@ pub fn lend_two(lens: [usize; 2], call: impl FnOnce(&mut [u64], &mut [u64]) -> u
         let (first, second) = room.split_at_mut(lens[0]);
         call(first, second)
     })
+}
+
+/// Lends a room of so many bytes, none of them zero; each counts as a word.
+pub fn lend_bytes(len: usize, call: impl FnOnce(&mut [u8]) -> u64) -> Handed {
+    let mut room = vec![0xa5; len];
+    let number = call(&mut room);
+    Handed {
+        number,
+        room: room.into_iter().map(u64::from).collect(),
+    }
+}
+
+/// A room of bytes that suits or some more; in some cases one byte too few, none, or the program's
+/// own whole room.
+pub fn byte_room(dice: &mut Dice, suits: usize, whole: usize) -> usize {
+    match dice.whole(0, 63) {
+        0..=3 => suits - 1,
+        4 => 0,
+        5 => whole,
+        6..=20 => suits,
+        _ => suits + 100,
+    }
 }

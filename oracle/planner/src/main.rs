@@ -2,6 +2,7 @@
 
 use pico_args::Arguments;
 use planner::generate::{self, calls, Kind};
+use planner::holds::{self, years};
 use planner::tally::{Outcomes, Tally};
 use planner::{answers, lines, marked, plan, replies, stream};
 use std::io::{self, Read, Write};
@@ -18,6 +19,9 @@ oracle cover [--seed N] [--count N] [--kind KIND]
 oracle kinds                      the kinds of request
 oracle answers [--seed N] [--count N]       the fixed list of answers on times
 oracle replies [--seed N] [--count N]       the fixed list of what `plan` replies
+oracle holds < TEXT               the report of a year's holds, by document 02's rules
+oracle year KIND NUMBER [--seed N]          a generated text of a year's holds, to standard output
+oracle years                      the kinds of such texts
 ";
 
 fn main() -> ExitCode {
@@ -43,6 +47,9 @@ fn run(mut args: Arguments) -> Done {
         Some("kinds") => ended(args).and_then(|()| write(kinds_text().as_bytes())),
         Some("answers") => list(args, (1, 720), answers::times),
         Some("replies") => list(args, (2, 160), replies::listed),
+        Some("holds") => ended(args).and_then(|()| write(holds::reply(&stdin()?).as_bytes())),
+        Some("year") => one_year(args),
+        Some("years") => ended(args).and_then(|()| write(years_text().as_bytes())),
         Some(other) => Err(format!("`{other}` is no command\n{USAGE}")),
         None => Err(format!("which command?\n{USAGE}")),
     }
@@ -86,20 +93,44 @@ fn write(bytes: &[u8]) -> Done {
         .map_err(|e| format!("standard output: {e}"))
 }
 
-fn plan_stdin() -> Done {
+fn stdin() -> Result<Vec<u8>, String> {
     let mut bytes = Vec::new();
     io::stdin()
         .read_to_end(&mut bytes)
         .map_err(|e| format!("standard input: {e}"))?;
-    write(lines::of(&plan::of_stream(&bytes)).as_bytes())
+    Ok(bytes)
 }
 
-fn one_case(mut args: Arguments) -> Done {
+fn plan_stdin() -> Done {
+    write(lines::of(&plan::of_stream(&stdin()?)).as_bytes())
+}
+
+/// A kind's name, a number and a seed.
+fn named(mut args: Arguments) -> Result<(String, u64, u64), String> {
     let seed = option(&mut args, "--seed", 1)?;
-    let name: String = args.free_from_str().map_err(|e| format!("a kind: {e}"))?;
+    let name = args.free_from_str().map_err(|e| format!("a kind: {e}"))?;
     let number = args.free_from_str().map_err(|e| format!("a number: {e}"))?;
     ended(args)?;
+    Ok((name, number, seed))
+}
+
+fn one_case(args: Arguments) -> Done {
+    let (name, number, seed) = named(args)?;
     write(&generate::case(seed, number, Some(kind(&name)?)).bytes)
+}
+
+fn one_year(args: Arguments) -> Done {
+    let (name, number, seed) = named(args)?;
+    let kind = years::KINDS.iter().find(|kind| kind.name == name);
+    let kind = kind.ok_or_else(|| format!("`{name}` is no kind; `oracle years` lists them"))?;
+    write(&years::text(seed, number, Some(kind)).bytes)
+}
+
+fn years_text() -> String {
+    let lines = years::KINDS
+        .iter()
+        .map(|k| format!("{:<18}{}\n", k.name, k.words));
+    lines.collect()
 }
 
 fn cover(mut args: Arguments) -> Done {

@@ -4,6 +4,7 @@ pub mod arrivals;
 pub mod boxes;
 pub mod conflict;
 pub mod hints;
+pub mod holds;
 pub mod path;
 pub mod plan;
 pub mod positions;
@@ -79,5 +80,9 @@ pub const ALL: &[Layer] = &[
     Layer {
         name: "program",
         compare: program::compare,
+    },
+    Layer {
+        name: "holds",
+        compare: holds::compare,
     },
 ];

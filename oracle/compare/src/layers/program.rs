@@ -5,7 +5,7 @@ use crate::crossings;
 use crate::draw::{beside, Drawn};
 use crate::proved;
 use crate::report::Report;
-use crate::room::{Expected, Handed};
+use crate::room::{byte_room, lend_bytes, Expected};
 use planner::generate::dice::Dice;
 use planner::generate::{case, Case};
 use planner::plan::{self, Stop};
@@ -38,8 +38,8 @@ pub fn compare(seed: u64, count: u64) -> Report {
         let kind = made.kind;
         let (bytes, mut dice) = asked(made, beside(seed, number));
         let expected = expected(&mut report, &bytes);
-        let len = room(&mut dice, expected.room());
-        let handed = lend(len, |out| proved::plan(&bytes, out));
+        let len = byte_room(&mut dice, expected.room(), WHOLE);
+        let handed = lend_bytes(len, |out| proved::plan(&bytes, out));
         report.add(kind.name(), &handed, &expected.in_room(len), || {
             format!("the stream {bytes:02x?} in {len} bytes")
         });
@@ -80,26 +80,5 @@ fn expected(report: &mut Report, bytes: &[u8]) -> Expected {
             report.see("reply: none by the rules");
             Expected::fault(&fault)
         }
-    }
-}
-
-/// A room that suits or some bytes more; in some cases one byte too few, none, or the program's own room.
-fn room(dice: &mut Dice, suits: usize) -> usize {
-    match dice.whole(0, 63) {
-        0..=3 => suits - 1,
-        4 => 0,
-        5 => WHOLE,
-        6..=20 => suits,
-        _ => suits + 100,
-    }
-}
-
-/// Lends a room of so many bytes, none of them zero, to the call.
-fn lend(len: usize, call: impl FnOnce(&mut [u8]) -> u64) -> Handed {
-    let mut room = vec![0xa5; len];
-    let number = call(&mut room);
-    Handed {
-        number,
-        room: room.into_iter().map(u64::from).collect(),
     }
 }

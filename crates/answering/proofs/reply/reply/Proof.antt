@@ -10,9 +10,10 @@ use mathlib.Core.List.{List}
 use native.Mathlib.Omega.{arith}
 use lib.ListN.{length}
 use Rattle.lists.specs.Outcome.{Gives, Refuses}
+use Rattle.wording.specs.Lines.{printed}
 use Rattle.wording.proofs.Sizes.{refused-short}
 use Rattle.telling.specs.Answer.{planLines}
-use Rattle.answering.specs.Text.{printed, streamReply, streamText}
+use Rattle.answering.specs.Text.{streamReply, streamText}
 use Rattle.answering.proofs.Roomed.{told-stream}
 use Rattle.answering.proofs.reply.reply.Statement.{statement}
 use Rattle.answering.proofs.reply.reply.Tie as tie

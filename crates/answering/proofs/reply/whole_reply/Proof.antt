@@ -5,8 +5,8 @@ use denote.Ref.{now}
 use mathlib.Core.Path.{_≡_, sym, _∙_}
 use lib.ListN.{length}
 use Rattle.lists.specs.Outcome.{Outcome}
+use Rattle.wording.proofs.Printed.{text-printed, line-printed}
 use Rattle.answering.specs.Text.{streamReply, streamText}
-use Rattle.answering.proofs.Printed.{text-printed, line-printed}
 use Rattle.answering.proofs.reply.whole_reply.Statement.{statement}
 use Rattle.answering.proofs.reply.whole_reply.Tie as tie
 

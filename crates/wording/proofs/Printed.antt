@@ -5,7 +5,8 @@ use Prim.Native.Nat.{ℕ, _-_, _≤_}
 use mathlib.Core.Path.{_≡_, refl, sym, ap, _∙_}
 use mathlib.Core.List.{List, _++_}
 use native.Mathlib.Omega.{arith}
-use lib.ListN.{length, replicate}
+use lib.ListN.{length, take, replicate, length-append}
+use lib.Seq.{take-append-seam}
 use Rattle.lists.specs.Outcome.{Outcome, Gives, Refuses, roomOf}
 use Rattle.lists.proofs.Answer.{room-fits}
 use Rattle.lists.proofs.Fours.{either}
@@ -15,8 +16,7 @@ use Rattle.texts.specs.Room.{PutText, toldOf, toldNumber}
 use Rattle.texts.specs.declared.room.Told.{Told}
 use Rattle.texts.specs.declared.room.Told.the-variants.{Text, Refused}
 use Rattle.texts.proofs.Telling.{told-fits, told-short, put-in-zeros}
-use Rattle.wording.specs.Lines.{line, refusedLine}
-use Rattle.answering.specs.Text.{printed}
+use Rattle.wording.specs.Lines.{line, refusedLine, printed}
 
 -- (RULES 15.5)
 pub a-refusal : printed (Refuses 12) ≡ bytesOf "refused 12\n"
@@ -24,8 +24,15 @@ unfolding printed refusedLine line countField decimalOf decimalBy glyph bytesOf
 a-refusal = refl
 
 -- A room with a text and zeros behind it.
-abbrev filledWith : List ℕ → ℕ → List ℕ
+abbrev pub filledWith : List ℕ → ℕ → List ℕ
 filledWith text room = text ++ replicate (room - length text) 0
+
+-- The front of such a room, as many bytes as the text has.
+pub within : (text : List ℕ) (size n : ℕ) (room : List ℕ) → n ≡ length text → room ≡ filledWith text size → n ≤ length room
+within text size n room e f = rw (e, f) (omega (arith, length-append text (replicate (size - length text) 0)))
+
+pub counted : (text : List ℕ) (size n : ℕ) (room : List ℕ) → n ≡ length text → room ≡ filledWith text size → n ≡ length (take n room)
+counted text size n room e f = rw (e, f) (ap length (sym (take-append-seam text (replicate (size - length text) 0))))
 
 abbrev lengthIn : Told → ℕ
 lengthIn (Text n) = n

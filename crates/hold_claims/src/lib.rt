@@ -1,0 +1,1 @@
+// What a crew can have checked of a year's report.

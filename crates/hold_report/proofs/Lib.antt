@@ -1,0 +1,4 @@
+pub mod Lowered
+pub mod Told
+pub mod Sizes
+pub mod Examples

@@ -1,0 +1,10 @@
+pub mod Pieces
+pub mod Places
+pub mod Cut
+pub mod Short
+pub mod Going
+pub mod Else
+pub mod Examples
+pub mod Steady
+pub mod Printed
+pub mod Long
