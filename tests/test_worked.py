@@ -42,7 +42,7 @@ def defined():
         cart = ((whole(s), number(x), number(y)), (whole(t), number(u), number(v)))
         question = (whole(metres), whole(start), FOOTPRINTS[kind], cart)
         if call == "walked":
-            refused = re.search(r"\.refused ≡ (\d+)", answer)
+            refused = re.search(r"≡ Refused (\d+)", answer)
             hints = [(number(at), whole(until)) for at, until in HINT.findall(answer)]
             found[question] = int(refused[1]) if refused else hints
         else:

@@ -12,8 +12,8 @@ use Rattle.lists.proofs.Fours.{length-rows}
 use Rattle.numbers.specs.declared.time.Duration.{Duration}
 use Rattle.shapes.specs.declared.waypoint.Waypoint.{Waypoint}
 use Rattle.waits.specs.declared.hint.WaitHint.{WaitHint}
-use Rattle.ranking.specs.Hints.{blankRanked}
-use Rattle.ranking.specs.declared.order.RankedHint.{RankedHint}
+use Rattle.waits.specs.Words.{blankRanked}
+use Rattle.waits.specs.declared.hint.RankedHint.{RankedHint}
 use Rattle.ways.specs.Travel.{hintWaypoint}
 use Rattle.ways.specs.declared.trip.Trip.{Trip}
 use Rattle.actions.specs.Action.{actionWords, actionRows}

@@ -1,10 +1,10 @@
 -- How many actions are built: two for each hint, and the last move (RULES 13.23).
 -- Assumes nothing.
-use Prim.Native.Nat.{ℕ, _+_, _*_, _≤_}
+use Prim.Native.Nat.{ℕ, _+_, _*_}
 use mathlib.Core.Path.{_≡_, refl}
 use mathlib.Core.List.{List, [], _∷_, map}
 use native.Mathlib.Omega.{arith}
-use lib.ListN.{length, getD, length-append, length-map, length-take}
+use lib.ListN.{length, getD, length-append, length-map}
 use Rattle.numbers.specs.Time.{withSpan}
 use Rattle.numbers.specs.declared.time.Duration.{Duration}
 use Rattle.numbers.specs.declared.time.Span.{Span}
@@ -12,10 +12,8 @@ use Rattle.numbers.specs.declared.time.Span.the-variants as S
 use Rattle.shapes.specs.Leg.{placeOf}
 use Rattle.shapes.specs.declared.waypoint.Waypoint.{Waypoint}
 use Rattle.waits.specs.declared.hint.WaitHint.{WaitHint}
-use Rattle.ranking.specs.Hints.{blankRanked}
-use Rattle.ranking.specs.declared.order.RankedHint.{RankedHint}
-use Rattle.chains.specs.Handed.{linksIn}
-use Rattle.chains.specs.declared.tried.Chain.{Chain}
+use Rattle.waits.specs.Words.{blankRanked}
+use Rattle.waits.specs.declared.hint.RankedHint.{RankedHint}
 use Rattle.ways.specs.Travel.{hintWaypoint, reachedFrom, withReached}
 use Rattle.ways.specs.declared.travel.Reached.{Reached}
 use Rattle.ways.specs.declared.travel.Reached.the-variants as W
@@ -78,8 +76,3 @@ chain-counts trip hints links =
     let stops : List WaitHint = map (λ i. getD hints i blankRanked .hint) links in
     let same : length stops ≡ length links = length-map links (λ i. getD hints i blankRanked .hint) in
     rw (← same) (built-counts trip (trip .leg .start) unheld stops)
-
--- A chain in 64 places has at most 64 links.
-pub few-links : (chain : Chain) → length (chain .all) ≡ 64 → length (linksIn chain) ≤ 64
-unfolding linksIn
-few-links chain places = omega (arith, length-take (chain .count) (chain .all))

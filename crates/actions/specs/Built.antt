@@ -13,8 +13,8 @@ use Rattle.numbers.specs.declared.time.TimePoint.{TimePoint}
 use Rattle.shapes.specs.Leg.{placeOf}
 use Rattle.shapes.specs.declared.waypoint.Waypoint.{Waypoint}
 use Rattle.waits.specs.declared.hint.WaitHint.{WaitHint}
-use Rattle.ranking.specs.Hints.{blankRanked}
-use Rattle.ranking.specs.declared.order.RankedHint.{RankedHint}
+use Rattle.waits.specs.Words.{blankRanked}
+use Rattle.waits.specs.declared.hint.RankedHint.{RankedHint}
 use Rattle.ways.specs.Travel.{hintWaypoint, reachedFrom, withReached}
 use Rattle.ways.specs.declared.trip.Trip.{Trip}
 use Rattle.actions.specs.declared.action.SafeAction.{SafeAction}

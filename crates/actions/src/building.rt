@@ -1,14 +1,14 @@
 // A path from the chain of its hints (docs/RULES.md, 13.23 to 13.26).
 use crate::action;
 use crate::action::SafeAction;
-use chains::tried::Chain;
+use chains::tried;
 use lists::words;
 use numbers::time::Duration;
 use numbers::time::Span;
 use numbers::time::TimePoint;
-use ranking::ranked_hints::RankedHints;
 use shapes::waypoint::Waypoint;
 use waits::hint::WaitHint;
+use waits::hint_list;
 use ways::travel;
 use ways::travel::Reached;
 use ways::trip::Trip;
@@ -16,8 +16,8 @@ ghost use mathlib.Core.Path.{_≡_};
 ghost use Prim.Native.Nat.{_≤_, _/_, min};
 ghost use lib.ListN.{length};
 ghost use lib.IntN.{pos};
-ghost use Rattle.ranking.specs.Hints.{rankedHeld};
-ghost use Rattle.chains.specs.Handed.{linksIn};
+ghost use Rattle.waits.specs.Words.{hintsIn};
+ghost use Rattle.chains.specs.Links.{linksIn};
 ghost use Rattle.actions.specs.Built.{Refused, holdAfter, stopped, ended, built, hintsAt};
 ghost use Rattle.actions.specs.Laid.{PutActions};
 
@@ -103,17 +103,17 @@ fn place(out: &[u64], row: usize) -> usize
 }
 
 // The actions of a whole path from `row` on: two for each hint of the chain, and the last move. A refusal keeps no word.
-pub fn build(trip: Trip, hints: RankedHints, chain: Chain, out: &mut [u64], row: usize) -> Hold
-    ensures { λ r. ⌜ PutActions (built trip (trip .leg .start) (record { 0 = pos 0 }) (hintsAt (rankedHeld hints) (linksIn chain))) (now (out .entry)) (now (out .exit)) row r ⌝ }
+pub fn build(trip: Trip, hints: &[u64; 385], chain: &[u64; 65], out: &mut [u64], row: usize) -> Hold
+    ensures { λ r. ⌜ PutActions (built trip (trip .leg .start) (record { 0 = pos 0 }) (hintsAt (hintsIn (now (hints .entry))) (linksIn (now (chain .entry))))) (now (out .entry)) (now (out .exit)) row r ⌝ }
 {
     let leg = trip.leg;
-    let n = chain.len();
+    let n = tried::links_of(chain);
     let mut from = leg.start;
     let mut hold = Duration(0);
     let mut at = place(out, row);
     let mut k = 0;
     while k < n {
-        let ranked = hints.at(chain.all[k]);
+        let ranked = hint_list::hint_at(hints, tried::link_at(chain, k));
         let hint = ranked.hint;
         let stop = put_stop(trip, from, hint, hold, out, at);
         let Hold::Of(sum) = stop else {

@@ -1,4 +1,4 @@
--- A path has at most 129 actions: two for each of at most 64 hints, and the last move (RULES 13.23).
+-- Among at most 64 hints a path has at most 129 actions: two for each hint of its chain, and the last move (RULES 13.23).
 -- Assumes nothing.
 use Prim.Native.Nat.{ℕ, _+_, _*_, _≤_}
 use mathlib.Core.Path.{_≡_, refl, subst}
@@ -6,15 +6,16 @@ use mathlib.Core.Bool.{Bool, true, false, cond}
 use mathlib.Core.List.{List}
 use native.Mathlib.Omega.{arith}
 use lib.Dec.{eqb}
-use lib.ListN.{length, length-take}
+use lib.ListN.{length}
 use Rattle.numbers.specs.declared.time.Duration.{Duration}
 use Rattle.numbers.specs.declared.time.TimePoint.{TimePoint}
-use Rattle.ranking.specs.declared.order.RankedHint.{RankedHint}
+use Rattle.waits.specs.declared.hint.RankedHint.{RankedHint}
 use Rattle.obstacles.specs.Obstacle.{Obstacle}
 use Rattle.chains.specs.Answer.{Chained, Way, NoWay, Refused}
-use Rattle.chains.specs.Handed.{chainOf, linksIn, firstIndex, answered}
+use Rattle.chains.specs.Handed.{firstIndex}
 use Rattle.chains.specs.declared.trial.Trial.{Trial}
 use Rattle.chains.specs.declared.trial.Trial.the-variants as T
+use Rattle.chains.proofs.Links.{wayLinks}
 use Rattle.choosing.specs.Roots.{goalContour, firstRoot}
 use Rattle.ways.specs.Tests.{straight}
 use Rattle.choosing.specs.declared.roots.Contour.{Contour}
@@ -25,6 +26,7 @@ use Rattle.actions.specs.Built as B
 use Rattle.actions.specs.Built.{Built}
 use Rattle.actions.specs.Built.{built, hintsAt, unheld}
 use Rattle.actions.specs.declared.action.SafeAction.{SafeAction}
+use Rattle.paths.proofs.Few.{chain-few}
 use Rattle.actions.proofs.Counted.{Counts, chain-counts}
 use Rattle.arrival_paths.specs.Path as P
 use Rattle.arrival_paths.specs.Path.{Sought, Path, Missing, withPops, contoured}
@@ -35,11 +37,6 @@ abbrev Short : Sought → Type 0
 Short (Path actions pops hold) = length actions ≤ 129
 Short (Missing pops) = Unit {0}
 Short (P.Refused n) = Unit {0}
-
--- A chain has 64 places.
-in-places : (links : List ℕ) → length (linksIn (chainOf links)) ≤ 64
-unfolding linksIn chainOf
-in-places links = omega (arith, length-take (chainOf links .count) (chainOf links .all))
 
 pops-short : (n pops : ℕ) (b : Built) → Counts n b → n ≤ 129 → Short (withPops pops b)
 pops-short n pops (B.Of actions hold) h few = omega arith
@@ -52,17 +49,18 @@ along-short trip hints links pops few =
     pops-short (2 * length links + 1) pops (built trip (trip .leg .start) unheld (hintsAt hints links))
     (chain-counts trip hints links) (omega arith)
 
-taken-short : (trip : Trip) (hints : List RankedHint) (answer : Chained) → Short (taken trip hints (answered answer))
+taken-short : (trip : Trip) (hints : List RankedHint) (answer : Chained) → wayLinks answer ≤ 64 → Short (taken trip hints answer)
 unfolding taken
-taken-short trip hints (Way links pops) = along-short trip hints (linksIn (chainOf links)) pops (in-places links)
-taken-short trip hints (NoWay pops) = tt
-taken-short trip hints (Refused n pops) = tt
+taken-short trip hints (Way links pops) few = along-short trip hints links pops few
+taken-short trip hints (NoWay pops) few = tt
+taken-short trip hints (Refused n pops) few = tt
 
 contoured-short : (c : Contour) (go : Duration → Sought) → ((d : Duration) → Short (go d)) → Short (contoured c go)
 contoured-short (C.Of d) go h = h d
 contoured-short (C.Refused n) go h = tt
 
-module _ (trip : Trip) (os : List Obstacle) (hints : List RankedHint) (budget : ℕ) (arrival : TimePoint) where
+module _ (trip : Trip) (os : List Obstacle) (hints : List RankedHint) (few : length hints ≤ 64) (budget : ℕ)
+    (arrival : TimePoint) where
   hints-short : Short (byHints trip os hints budget arrival)
   unfolding byHints
   hints-short = by (eqb (length hints) 0)
@@ -71,11 +69,12 @@ module _ (trip : Trip) (os : List Obstacle) (hints : List RankedHint) (budget : 
       answer goal = chainFrom trip os hints budget (firstIndex (firstRoot goal hints))
 
       go : Duration → Sought
-      go goal = taken trip hints (answered (answer goal))
+      go goal = taken trip hints (answer goal)
 
       by : (none : Bool) → Short (cond none (Missing 0) (contoured (goalContour trip arrival) go))
       by true = tt
-      by false = contoured-short (goalContour trip arrival) go (λ goal. taken-short trip hints (answer goal))
+      by false = contoured-short (goalContour trip arrival) go (λ goal.
+          taken-short trip hints (answer goal) (chain-few trip os hints budget (firstIndex (firstRoot goal hints)) few))
 
   for-short : Short (pathFor trip os hints budget arrival)
   unfolding pathFor

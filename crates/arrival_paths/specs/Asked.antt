@@ -18,10 +18,10 @@ use Rattle.shapes.specs.declared.waypoint.Leg.{Leg}
 use Rattle.obstacles.specs.Lent.{Lent, obstaclesOf}
 use Rattle.obstacles.specs.Obstacle.{Obstacle}
 use Rattle.obstacles.specs.Examined.{agentExamined}
-use Rattle.ranking.specs.Hints.{rankedHeld}
+use Rattle.ranking.specs.Hints as R
+use Rattle.ranking.specs.Hints.{Ranked}
 use Rattle.lending.specs.Lent.{lentHints}
-use Rattle.ranking.specs.declared.order.RankedHint.{RankedHint}
-use Rattle.ranking.specs.declared.ranked_hints.RankedHints.{RankedHints}
+use Rattle.waits.specs.declared.hint.RankedHint.{RankedHint}
 use Rattle.hints.specs.Contour.{scaleOf}
 use Rattle.hints.specs.declared.contour.Scale.{Scale}
 use Rattle.hints.specs.declared.contour.Scaling.{Scaling}
@@ -47,13 +47,16 @@ lonePath p agent arrival budget hints os = by (scaleOf agent)
 unfoldable pub askedPath : CircularProfile → Leg → TimePoint → ℕ → List ℕ → Lent → Sought
 askedPath p agent arrival budget words lent = by (lentHints (length (lent .starts)) words)
   where
+    beside : Examined
+    beside = withNumbers (isBudget budget && isTime arrival) (agentExamined p agent lent)
+
     examined : Examined → List RankedHint → Sought
     examined X.Fine hints = cond (isBrief agent) (Refused NO_LINE) (lonePath p agent arrival budget hints (obstaclesOf lent))
     examined (X.Refused n) hints = Refused n
 
-    by : RankedHints → Sought
-    by list =
-        examined (withLent (list .refused) (withNumbers (isBudget budget && isTime arrival) (agentExamined p agent lent))) (rankedHeld list)
+    by : Ranked → Sought
+    by (R.Of hints) = examined beside hints
+    by (R.Refused n) = examined (withLent n beside) []
 
 -- Its words, in rows of four: whether there is a path, its pops, its hold and its count of actions; then they.
 unfoldable pub pathOutcome : Sought → Outcome

@@ -8,13 +8,12 @@ use lib.ListN.{length}
 use Rattle.numbers.specs.declared.time.Duration.{Duration}
 use Rattle.numbers.specs.declared.time.TimePoint.{TimePoint}
 use Rattle.obstacles.specs.Obstacle.{Obstacle}
-use Rattle.ranking.specs.declared.order.RankedHint.{RankedHint}
-use Rattle.chains.specs.Handed.{linksIn, firstIndex, answered}
+use Rattle.waits.specs.declared.hint.RankedHint.{RankedHint}
+use Rattle.chains.specs.Answer as A
+use Rattle.chains.specs.Answer.{Chained}
+use Rattle.chains.specs.Handed.{firstIndex}
 use Rattle.chains.specs.declared.trial.Trial.{Trial}
 use Rattle.chains.specs.declared.trial.Trial.the-variants as T
-use Rattle.chains.specs.declared.tried.Ending.{Ending}
-use Rattle.chains.specs.declared.tried.Ending.the-variants as E
-use Rattle.chains.specs.declared.tried.Tried.{Tried}
 use Rattle.choosing.specs.Roots.{goalContour, firstRoot}
 use Rattle.ways.specs.Tests.{straight}
 use Rattle.choosing.specs.declared.roots.Contour.{Contour}
@@ -41,14 +40,10 @@ unfoldable pub alongHints : Trip → List RankedHint → List ℕ → ℕ → So
 alongHints trip hints links pops = withPops pops (built trip (trip .leg .start) unheld (hintsAt hints links))
 
 -- What a search comes to (RULES 13.17, 13.21, 13.23).
-unfoldable pub taken : Trip → List RankedHint → Tried → Sought
-taken trip hints t = by (t .ending)
-  where
-    by : Ending → Sought
-    by E.Found = alongHints trip hints (linksIn (t .chain)) (t .pops)
-    by E.Blocked = Missing (t .pops)
-    by E.Unreached = Missing (t .pops)
-    by (E.Refused n) = Refused n
+unfoldable pub taken : Trip → List RankedHint → Chained → Sought
+taken trip hints (A.Way links pops) = alongHints trip hints links pops
+taken trip hints (A.NoWay pops) = Missing pops
+taken trip hints (A.Refused n pops) = Refused n
 
 abbrev pub contoured : Contour → (Duration → Sought) → Sought
 contoured (C.Of d) go = go d
@@ -60,7 +55,7 @@ byHints trip os hints budget arrival =
     cond (eqb (length hints) 0)
     (Missing 0)
     (contoured (goalContour trip arrival) (λ goal.
-    taken trip hints (answered (chainFrom trip os hints budget (firstIndex (firstRoot goal hints))))))
+    taken trip hints (chainFrom trip os hints budget (firstIndex (firstRoot goal hints)))))
 
 -- One Move to the asked waypoint where the direct path is safe, else by way of hints (RULES 13.5 to 13.7).
 unfoldable pub pathFor : Trip → List Obstacle → List RankedHint → ℕ → TimePoint → Sought

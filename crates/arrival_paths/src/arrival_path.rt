@@ -4,7 +4,7 @@ use actions::action::SafeAction;
 use actions::building;
 use actions::building::Hold;
 use chains::trial::Trial;
-use chains::tried::Chain;
+use chains::tried;
 use chains::tried::Ending;
 use chains::tried::Tried;
 use choosing::roots;
@@ -13,13 +13,14 @@ use lists::words;
 use numbers::time::Duration;
 use numbers::time::TimePoint;
 use paths::trying;
-use ranking::ranked_hints::RankedHints;
+use waits::hint_list;
 use ways::tests;
 use ways::trip::Trip;
 ghost use Rattle.obstacles.specs.Lent.{lentOf, obstaclesWith};
 ghost use Rattle.obstacles.specs.Boxes.{boxIn};
-ghost use Rattle.ranking.specs.Hints.{rankedHeld};
-ghost use Rattle.chains.specs.Handed.{linksIn};
+ghost use Rattle.waits.specs.Words.{hintsIn};
+ghost use Rattle.chains.specs.Links.{linksIn};
+ghost use Rattle.chains.specs.Handed.{chainedOf};
 ghost use Rattle.arrival_paths.specs.Path.{Refused, alongHints, taken, byHints, pathFor};
 ghost use Rattle.arrival_paths.specs.Laid.{PutPath};
 
@@ -41,15 +42,15 @@ fn refuse(out: &mut [u64], number: u64) -> Found
 // The path along a chain.
 fn along(
     trip: Trip,
-    hints: RankedHints,
-    chain: Chain,
+    hints: &[u64; 385],
+    chain: &[u64; 65],
     pops: u64,
     out: &mut [u64],
     row: usize,
 ) -> Found
-    ensures { λ r. ⌜ PutPath (alongHints trip (rankedHeld hints) (linksIn chain) pops) (now (out .entry)) (now (out .exit)) row r ⌝ }
+    ensures { λ r. ⌜ PutPath (alongHints trip (hintsIn (now (hints .entry))) (linksIn (now (chain .entry))) pops) (now (out .entry)) (now (out .exit)) row r ⌝ }
 {
-    let n = chain.len();
+    let n = tried::links_of(chain);
     let hold = building::build(trip, hints, chain, out, row);
     match hold {
         Hold::Refused(number) => Found::Refused(number),
@@ -57,12 +58,18 @@ fn along(
     }
 }
 
-// The path that a search came to.
-fn take(trip: Trip, hints: RankedHints, tried: Tried, out: &mut [u64], row: usize) -> Found
-    ensures { λ r. ⌜ PutPath (taken trip (rankedHeld hints) tried) (now (out .entry)) (now (out .exit)) row r ⌝ }
+// The path that a search came to, whose chain stands in a list of its own.
+fn take(
+    trip: Trip,
+    hints: &[u64; 385],
+    chain: &[u64; 65],
+    tried: Tried,
+    out: &mut [u64],
+    row: usize,
+) -> Found
+    ensures { λ r. ⌜ PutPath (taken trip (hintsIn (now (hints .entry))) (chainedOf tried (linksIn (now (chain .entry))))) (now (out .entry)) (now (out .exit)) row r ⌝ }
 {
     let ending = tried.ending;
-    let chain = tried.chain;
     match ending {
         Ending::Found => along(trip, hints, chain, tried.pops, out, row),
         Ending::Blocked => Found::Missing(tried.pops),
@@ -75,7 +82,7 @@ fn take(trip: Trip, hints: RankedHints, tried: Tried, out: &mut [u64], row: usiz
 fn by_hints(
     trip: Trip,
     arrival: TimePoint,
-    hints: RankedHints,
+    hints: &[u64; 385],
     budget: u64,
     starts: &[usize],
     numbers: &[f64],
@@ -86,9 +93,9 @@ fn by_hints(
     out: &mut [u64],
     row: usize,
 ) -> Found
-    ensures { λ r. ⌜ PutPath (byHints trip (obstaclesWith (lentOf (now (starts .entry)) (now (numbers .entry)) (now (times .entry)) (now (xs .entry)) (now (ys .entry))) (boxIn (now (boxes .entry)))) (rankedHeld hints) budget arrival) (now (out .entry)) (now (out .exit)) row r ⌝ }
+    ensures { λ r. ⌜ PutPath (byHints trip (obstaclesWith (lentOf (now (starts .entry)) (now (numbers .entry)) (now (times .entry)) (now (xs .entry)) (now (ys .entry))) (boxIn (now (boxes .entry)))) (hintsIn (now (hints .entry))) budget arrival) (now (out .entry)) (now (out .exit)) row r ⌝ }
 {
-    if hints.len() == 0 {
+    if hint_list::count_of(hints) == 0 {
         return Found::Missing(0);
     }
     let contour = roots::goal_contour(trip, arrival);
@@ -96,6 +103,7 @@ fn by_hints(
         Contour::Refused(n) => refuse(out, n),
         Contour::Of(goal) => {
             let first = roots::first_root(hints, goal);
+            let mut chain = [0u64; 65];
             let tried = trying::find_chain(
                 trip,
                 hints,
@@ -107,8 +115,9 @@ fn by_hints(
                 xs,
                 ys,
                 boxes,
+                &mut chain,
             );
-            take(trip, hints, tried, out, row)
+            take(trip, hints, &chain, tried, out, row)
         }
     }
 }
@@ -117,7 +126,7 @@ fn by_hints(
 pub fn compute_safe_arrival_path(
     trip: Trip,
     arrival: TimePoint,
-    hints: RankedHints,
+    hints: &[u64; 385],
     budget: u64,
     starts: &[usize],
     numbers: &[f64],
@@ -128,7 +137,7 @@ pub fn compute_safe_arrival_path(
     out: &mut [u64],
     row: usize,
 ) -> Found
-    ensures { λ r. ⌜ PutPath (pathFor trip (obstaclesWith (lentOf (now (starts .entry)) (now (numbers .entry)) (now (times .entry)) (now (xs .entry)) (now (ys .entry))) (boxIn (now (boxes .entry)))) (rankedHeld hints) budget arrival) (now (out .entry)) (now (out .exit)) row r ⌝ }
+    ensures { λ r. ⌜ PutPath (pathFor trip (obstaclesWith (lentOf (now (starts .entry)) (now (numbers .entry)) (now (times .entry)) (now (xs .entry)) (now (ys .entry))) (boxIn (now (boxes .entry)))) (hintsIn (now (hints .entry))) budget arrival) (now (out .entry)) (now (out .exit)) row r ⌝ }
 {
     let direct = tests::can_arrive_safely(trip, arrival, starts, numbers, times, xs, ys, boxes);
     match direct {

@@ -2,7 +2,7 @@
 -- Assumes nothing.
 use Prim.Native.Nat.{ℕ}
 use mathlib.Core.Path.{_≡_}
-use mathlib.Core.Bool.{Bool, true, false, cond}
+use mathlib.Core.Bool.{Bool, true, false, cond, true≢false}
 use lib.Dec.{eqb}
 use Rattle.limits.specs.declared.domain.Examined.{Examined}
 use Rattle.limits.specs.declared.domain.Examined.the-variants.{Fine, Refused}
@@ -22,11 +22,11 @@ unfolding withNumbers
 numbers-fine true e f = f
 numbers-fine false e f = numbered-not e e f
 
-pub lent-fine : (refused : ℕ) (e : Examined) → withLent refused e ≡ Fine → e ≡ Fine
+-- Hints that are refused leave nothing fine.
+pub lent-not-fine : (number : ℕ) (e : Examined) → withLent number e ≡ Fine → ⊥
 unfolding withLent
-lent-fine refused e f = by (eqb refused 0) (eqb refused 2) f
+lent-not-fine number e = by (eqb number 2)
   where
-    by : (a b : Bool) → cond a e (cond b (Refused 2) (numbered e)) ≡ Fine → e ≡ Fine
-    by true b g = g
-    by false true g = cc
-    by false false g = numbered-not e e g
+    by : (two : Bool) → cond two (Refused 2) (numbered e) ≡ Fine → ⊥
+    by true f = true≢false (cc f)
+    by false f = true≢false (cc (numbered-not e (Refused 1) f))

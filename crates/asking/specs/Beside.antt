@@ -20,6 +20,6 @@ numbered (X.Refused n) = cond (eqb n SHAPE) (X.Refused SHAPE) (X.Refused NUMBER)
 unfoldable pub withNumbers : Bool → Examined → Examined
 withNumbers ok e = cond ok e (numbered e)
 
--- What is found with hints that are refused by this number, 0 for none: 2 for their count, else 1 (RULES 11.9, 11.10).
+-- What is found with hints that are refused by this number: 2 for their count, else 1 (RULES 11.9, 11.10).
 unfoldable pub withLent : ℕ → Examined → Examined
-withLent refused e = cond (eqb refused 0) e (cond (eqb refused SHAPE) (X.Refused SHAPE) (numbered e))
+withLent number e = cond (eqb number SHAPE) (X.Refused SHAPE) (numbered e)

@@ -48,14 +48,11 @@ pub fn with_numbers(ok: bool, found: Examined) -> Examined
     by_number(found)
 }
 
-// What is found with hints that are refused by this number, 0 for none.
-pub fn with_lent(refused: u64, found: Examined) -> Examined
-    ensures { λ r. ⌜ r ≡ withLent refused found ⌝ }
+// What is found with hints that are refused by this number.
+pub fn with_lent(number: u64, found: Examined) -> Examined
+    ensures { λ r. ⌜ r ≡ withLent number found ⌝ }
 {
-    if refused == 0 {
-        return found;
-    }
-    if refused == refusals::SHAPE {
+    if number == refusals::SHAPE {
         return Examined::Refused(refusals::SHAPE);
     }
     by_number(found)

@@ -1,63 +1,123 @@
--- A chain that is found has at most as many links as there are hints, so that 64 places hold it, and it is read back whole
--- (RULES 13.23).
+-- A chain as words: its links are read back whole as long as 64 places hold them, and a chain that is found has at most as many
+-- links as there are hints (RULES 13.23).
 -- Assumes nothing.
-use mathlib.Core.Path.{_≡_, refl, ap}
+use mathlib.Core.Path.{_≡_, refl, sym, ap, _∙_}
 use mathlib.Core.Bool.{Bool, true, false}
-use mathlib.Core.List.{List, [], _∷_, _++_}
+use mathlib.Core.List.{List, [], _∷_, _++_, append-assoc, append-nil}
 use mathlib.Core.Option.{Option, none, some}
 use Prim.Native.Nat.{ℕ, zero, suc, _+_, _-_, _≤_, _<_, min}
 use native.Mathlib.Omega.{arith}
-use borrow.Author.Tests.{leb-true, leb-false, ltb-true}
+use borrow.Author.Tests.{lt-ltb, ltb-true, ltb-false}
 use lib.Dec.{ltb, leb}
-use lib.ListN.{length, take, set, length-append}
+use lib.ListN.{length, getD, set, replicate, length-append, length-set, List·getD-append}
+use lib.Seq.{ext-getD, getD-at, getD-set-same, getD-set-other}
+use Rattle.lists.specs.Listed.{listed}
+use Rattle.lists.proofs.Listed.{length-listed, listed-at}
 use Rattle.chains.specs.declared.trial.Trial.{Trial}
 use Rattle.chains.specs.declared.trial.Trial.the-variants as T
+use Rattle.chains.specs.declared.tried.Tried as D
 use Rattle.chains.specs.Answer.{Chained, Way, NoWay, Refused}
 use Rattle.chains.specs.Recursive as R
 use Rattle.chains.specs.Recursive.{Tried, Found, Blocked, Unreached, Stopped}
 use Rattle.chains.specs.Recursive.{popped, arrivedBy, startedBy, offer, afterChild, atRoot}
-use Rattle.chains.specs.Handed.{pad, chainOf, linksIn, ontoChain, handed}
+use Rattle.chains.specs.Links.{linksIn, linkedTo, linkedBy}
+use Rattle.chains.specs.Handed.{HandsChain, chainedOf}
 
--- ---- The places.
+-- ---- The words.
 
-pad-more : (m : ℕ) (l : List ℕ) (i : ℕ) → length l < m → set (pad m l) (length l) i ≡ pad m (l ++ i ∷ [])
-unfolding pad
-pad-more zero l i h = absurd (omega arith)
-pad-more (suc m) [] i h = refl
-pad-more (suc m) (x ∷ l) i h = ap (λ (r : List ℕ). x ∷ r) (pad-more m l i (omega arith))
+-- A chain has as many links as its first word says, 64 at most.
+pub links-count : (words : List ℕ) → length (linksIn words) ≡ min 64 (getD words 0 0)
+unfolding linksIn
+links-count words = length-listed (λ k. getD words (k + 1) 0) (min 64 (getD words 0 0)) 0
 
-pad-full : (m : ℕ) (l : List ℕ) (i : ℕ) → m ≤ length l → pad m (l ++ i ∷ []) ≡ pad m l
-unfolding pad
-pad-full zero l i h = refl
-pad-full (suc m) [] i h = absurd (omega arith)
-pad-full (suc m) (x ∷ l) i h = ap (λ (r : List ℕ). x ∷ r) (pad-full m l i (omega arith))
+pub few-links : (words : List ℕ) → length (linksIn words) ≤ 64
+few-links words = omega (arith, links-count words)
 
-take-pad : (m : ℕ) (l : List ℕ) → length l ≤ m → take (length l) (pad m l) ≡ l
-unfolding pad
-take-pad m [] h = refl
-take-pad zero (x ∷ l) h = absurd (omega arith)
-take-pad (suc m) (x ∷ l) h = ap (λ (r : List ℕ). x ∷ r) (take-pad m l (omega arith))
+-- Link k stands in the word behind it.
+pub link-there : (words : List ℕ) (k : ℕ) → k < length (linksIn words) → getD (linksIn words) k 0 ≡ getD words (k + 1) 0
+unfolding linksIn
+link-there words k there =
+    let same : 0 + k + 1 ≡ k + 1 = omega arith in
+    listed-at (λ j. getD words (j + 1) 0) (min 64 (getD words 0 0)) 0 k 0 (omega (arith, links-count words)) ∙
+    ap (λ j. getD words j 0) same
 
--- At most 64 links are read back whole.
-pub chain-back : (l : List ℕ) → length l ≤ 64 → linksIn (chainOf l) ≡ l
-unfolding chainOf linksIn
-chain-back l h = let all : min 64 (length l) ≡ length l = omega arith in rw all (take-pad 64 l h)
+-- One link more is the last of those that are added.
+pub linked-more : (words l : List ℕ) (i : ℕ) → linkedBy words (l ++ (i ∷ [])) ≡ linkedTo (linkedBy words l) i
+unfolding linkedBy
+linked-more words [] i = refl
+linked-more words (x ∷ l) i = linked-more (linkedTo words x) l i
 
--- One link more, as the code puts it there.
-pub one-link : (l : List ℕ) (i p : ℕ) → handed (Found (l ++ i ∷ []) p) ≡ ontoChain (handed (Found l p)) i
-unfolding chainOf
-one-link l i p = by (leb 64 (min 64 (length l))) refl
-  where
-    by : (full : Bool) → leb 64 (min 64 (length l)) ≡ full → handed (Found (l ++ i ∷ []) p) ≡ ontoChain (handed (Found l p)) i
-    by true e =
-        let h : 64 ≤ length l = omega (arith, leb-true 64 (min 64 (length l)) e) in
-        let n : min 64 (length (l ++ i ∷ [])) ≡ min 64 (length l) = omega (arith, length-append l (i ∷ [])) in
-        rw (e, n, pad-full 64 l i h)
-    by false e =
-        let h : length l < 64 = omega (arith, leb-false 64 (min 64 (length l)) e) in
-        let n : min 64 (length (l ++ i ∷ [])) ≡ length l + 1 = omega (arith, length-append l (i ∷ [])) in
-        let m : min 64 (length l) ≡ length l = omega arith in
-        rw (e, n, m, pad-more 64 l i h)
+-- A chain with room for one link more.
+module _ (words : List ℕ) (i : ℕ) (long : length words ≡ 65) (room : getD words 0 0 < 64) where
+  abbrev count : ℕ
+  count = getD words 0 0
+
+  abbrev placed : List ℕ
+  placed = set words (count + 1) i
+
+  put : linkedTo words i ≡ set placed 0 (count + 1)
+  unfolding linkedTo
+  put = rw (lt-ltb count 64 room)
+
+  long-then : length (linkedTo words i) ≡ 65
+  long-then = ap length put ∙ length-set placed 0 (count + 1) ∙ length-set words (count + 1) i ∙ long
+
+  count-then : getD (linkedTo words i) 0 0 ≡ count + 1
+  count-then =
+      ap (λ (l : List ℕ). getD l 0 0) put ∙
+      getD-set-same placed 0 (count + 1) 0 (omega (arith, length-set words (count + 1) i))
+
+  -- The words of the other links stay, and behind them stands the new one.
+  word-then : (k : ℕ) → k < count → getD (linkedTo words i) (k + 1) 0 ≡ getD words (k + 1) 0
+  word-then k below =
+      ap (λ (l : List ℕ). getD l (k + 1) 0) put ∙
+      getD-set-other placed 0 (k + 1) (count + 1) 0 (λ e. let z : ⊥ = omega arith in z) ∙
+      getD-set-other words (count + 1) (k + 1) i 0 (λ e. let z : ⊥ = omega arith in z)
+
+  last-then : getD (linkedTo words i) (count + 1) 0 ≡ i
+  last-then =
+      ap (λ (l : List ℕ). getD l (count + 1) 0) put ∙
+      getD-set-other placed 0 (count + 1) (count + 1) 0 (λ e. let z : ⊥ = omega arith in z) ∙
+      getD-set-same words (count + 1) i 0 (omega arith)
+
+  -- Its links are those that were there and the new one.
+  links-then : linksIn (linkedTo words i) ≡ linksIn words ++ (i ∷ [])
+  links-then = ext-getD 0 (linksIn (linkedTo words i)) (linksIn words ++ (i ∷ [])) as-many each
+    where
+      few : length (linksIn words) ≡ count
+      few = omega (arith, links-count words)
+
+      as-many : length (linksIn (linkedTo words i)) ≡ length (linksIn words ++ (i ∷ []))
+      as-many = omega (arith, links-count (linkedTo words i), count-then, few, length-append (linksIn words) (i ∷ []))
+
+      each : (k : ℕ) → k < length (linksIn (linkedTo words i)) →
+          getD (linksIn (linkedTo words i)) k 0 ≡ getD (linksIn words ++ (i ∷ [])) k 0
+      each k there = link-there (linkedTo words i) k there ∙ by (ltb k count) refl
+        where
+          by : (b : Bool) → ltb k count ≡ b → getD (linkedTo words i) (k + 1) 0 ≡ getD (linksIn words ++ (i ∷ [])) k 0
+          by true e =
+              let below : k < count = ltb-true k count e in
+              word-then k below ∙ sym (link-there words k (omega (arith, few))) ∙
+              sym (List·getD-append (linksIn words) (i ∷ []) 0 k (omega (arith, few)))
+          by false e =
+              let last : k ≡ count = omega (arith, ltb-false k count e, as-many, few, length-append (linksIn words) (i ∷ [])) in
+              rw last (last-then ∙ sym (getD-at (linksIn words) i [] 0 count few))
+
+-- Links are read back behind those that were there, where there is room for them.
+linked-back : (words l : List ℕ) → length words ≡ 65 → getD words 0 0 + length l ≤ 64 →
+    linksIn (linkedBy words l) ≡ linksIn words ++ l
+unfolding linkedBy
+linked-back words [] long room = sym (append-nil (linksIn words))
+linked-back words (i ∷ l) long room =
+    let one : getD words 0 0 < 64 = omega arith in
+    linked-back (linkedTo words i) l (long-then words i long one) (omega (arith, count-then words i long one)) ∙
+    ap (λ (m : List ℕ). m ++ l) (links-then words i long one) ∙
+    append-assoc (linksIn words) (i ∷ []) l
+
+-- At most 64 links in an empty chain are read back whole.
+pub links-back : (l : List ℕ) → length l ≤ 64 → linksIn (linkedBy (replicate 65 0) l) ≡ l
+unfolding linksIn listed
+links-back l few = linked-back (replicate 65 0) l refl (omega arith)
 
 -- ---- The links of a chain that is found.
 
@@ -157,7 +217,12 @@ module _ (toParent : ℕ → Option ℕ → Trial) (fromStart : ℕ → Trial) (
       by true e = omega (arith, ltb-true r count e, roots-links (count - r) r 0)
       by false e = past-links count (leb budget 0)
 
-  -- So a way among 64 hints is read back whole.
-  pub way-back : (count : ℕ) (r : Option ℕ) (l : List ℕ) (p : ℕ) → count ≤ 64 →
-      R.recursiveSearch toParent fromStart reaches count budget r ≡ Way l p → linksIn (chainOf l) ≡ l
-  way-back count r l p few e = let h = rw e at (way-links count r) in chain-back l (omega (arith, h))
+-- ---- A whole search.
+
+-- The answer of a search that was lent an empty chain is read from how it ended and from the links that it left.
+pub chain-told : (answer : Chained) {left : List ℕ} {r : D.Tried} →
+    HandsChain answer (replicate 65 0) left r → wayLinks answer ≤ 64 → chainedOf r (linksIn left) ≡ answer
+unfolding chainedOf
+chain-told (Way l p) h few = rw (h .answer, h .links, links-back l few)
+chain-told (NoWay p) h few = rw (h .answer)
+chain-told (Refused n p) h few = rw (h .answer)

@@ -1,13 +1,16 @@
--- The recursion a step at a time, as the code takes it: by the ending that a hint's try hands back (RULES 13.12 to 13.21).
+-- The recursion a step at a time, as the code takes it: by the ending that a hint's try hands back, and the chain that it leaves
+-- (RULES 13.12 to 13.21).
 -- Assumes nothing.
-use mathlib.Core.Path.{_≡_, refl, sym, ap, _∙_}
+use mathlib.Core.Path.{_≡_, sym, ap, _∙_}
 use mathlib.Core.Bool.{Bool, true, false, true≢false}
-use mathlib.Core.Option.{Option, none, some}
+use mathlib.Core.List.{List}
+use mathlib.Core.Option.{Option, none}
 use Prim.Native.Nat.{ℕ, zero, suc, _+_, _-_, _≤_, _<_}
 use native.Mathlib.Omega.{arith}
 use native.Mathlib.Numerals.{sub-one}
 use borrow.Author.Tests.{le-leb, lt-leb}
 use lib.Dec.{leb}
+use Rattle.refusals.specs.Names.{SPENT}
 use Rattle.chains.specs.declared.trial.Trial.{Trial}
 use Rattle.chains.specs.declared.tried.Ending.{Ending}
 use Rattle.chains.specs.declared.tried.Ending.the-variants as E
@@ -15,44 +18,20 @@ use Rattle.chains.specs.declared.tried.Tried as D
 use Rattle.chains.specs.Answer.{Chained, NoWay}
 use Rattle.chains.specs.Recursive as R
 use Rattle.chains.specs.Recursive.{Tried, Found, Blocked, Unreached, Stopped}
-use Rattle.chains.specs.Recursive.{popped, startedBy, offer, afterChild, atRoot}
-use Rattle.chains.specs.Handed.{plain, ontoChain, handed, answered}
-use Rattle.chains.proofs.Links.{one-link}
+use Rattle.chains.specs.Recursive.{popped, startedBy, afterChild, atRoot}
+use Rattle.chains.specs.Links.{linkedTo}
+use Rattle.chains.specs.Handed.{HandsTried, HandsChain}
+use Rattle.chains.proofs.Links.{linked-more}
 
--- One pop more, within the budget or not (RULES 13.21).
-pub none-left : (budget p : ℕ) (go : ℕ → Tried) → budget ≤ p → handed (popped (leb budget p) go p) ≡ plain (E.Refused 11) p
-none-left budget p go h = rw (le-leb budget p h)
+-- What two endings that differ say.
+abbrev kind : Ending → ℕ
+kind E.Found = 0
+kind E.Blocked = 1
+kind E.Unreached = 2
+kind (E.Refused n) = 3
 
-pub one-more : (budget p : ℕ) (go : ℕ → Tried) → p < budget → popped (leb budget p) go p ≡ go (p + 1)
-one-more budget p go h = rw (lt-leb budget p h)
-
--- ---- What follows a child.
-
-after-found : (t : Tried) (i : ℕ) (go : ℕ → Tried) → handed t .ending ≡ E.Found → handed (afterChild t i go) ≡ ontoChain (handed t) i
-after-found (Found l p) i go e = one-link l i p
-after-found (Blocked p) i go e = cc
-after-found (Unreached p) i go e = cc
-after-found (Stopped n p) i go e = cc
-
-after-stopped : (t : Tried) (i : ℕ) (go : ℕ → Tried) (n : ℕ) → handed t .ending ≡ E.Refused n → handed (afterChild t i go) ≡ handed t
-after-stopped (Found l p) i go n e = cc
-after-stopped (Blocked p) i go n e = cc
-after-stopped (Unreached p) i go n e = cc
-after-stopped (Stopped m p) i go n e = refl
-
-after-blocked : (t : Tried) (i : ℕ) (go : ℕ → Tried) → handed t .ending ≡ E.Blocked → afterChild t i go ≡ go (handed t .pops)
-after-blocked (Found l p) i go e = cc
-after-blocked (Blocked p) i go e = refl
-after-blocked (Unreached p) i go e = refl
-after-blocked (Stopped n p) i go e = cc
-
-after-unreached : (t : Tried) (i : ℕ) (go : ℕ → Tried) → handed t .ending ≡ E.Unreached → afterChild t i go ≡ go (handed t .pops)
-after-unreached (Found l p) i go e = cc
-after-unreached (Blocked p) i go e = refl
-after-unreached (Unreached p) i go e = refl
-after-unreached (Stopped n p) i go e = cc
-
--- ---- What follows a root.
+clash : {r t : D.Tried} {e : Ending} → r ≡ t → r .ending ≡ e → kind (t .ending) ≡ kind e
+clash h f = sym (ap (λ (a : D.Tried). kind (a .ending)) h) ∙ ap kind f
 
 -- Whether a root moves up (RULES 13.18).
 abbrev pub isBlocked : Ending → Bool
@@ -61,17 +40,57 @@ isBlocked E.Blocked = true
 isBlocked E.Unreached = false
 isBlocked (E.Refused n) = false
 
-rooted-ends : (t : Tried) (go : ℕ → Chained) → isBlocked (handed t .ending) ≡ false → answered (atRoot t go) ≡ handed t
-rooted-ends (Found l p) go e = refl
-rooted-ends (Blocked p) go e = absurd (true≢false e)
-rooted-ends (Unreached p) go e = refl
-rooted-ends (Stopped n p) go e = refl
+-- A try that was lent a chain: r is what the code has of it, `left` the chain that it left.
+module _ {lent left : List ℕ} {r : D.Tried} where
+  -- ---- What follows a child of hint i.
 
-rooted-blocked : (t : Tried) (go : ℕ → Chained) → handed t .ending ≡ E.Blocked → atRoot t go ≡ go (handed t .pops)
-rooted-blocked (Found l p) go e = cc
-rooted-blocked (Blocked p) go e = refl
-rooted-blocked (Unreached p) go e = cc
-rooted-blocked (Stopped n p) go e = cc
+  module _ (i : ℕ) (go : ℕ → Tried) where
+    -- A chain gets i as its next link (RULES 13.23).
+    pub after-found : (t : Tried) {linked : List ℕ} → HandsTried t lent left r → r .ending ≡ E.Found → linked ≡ linkedTo left i →
+        HandsTried (afterChild t i go) lent linked r
+    after-found (Found l p) h e f =
+        record { answer = h .answer; links = f ∙ ap (λ x. linkedTo x i) (h .links) ∙ sym (linked-more lent l i) }
+    after-found (Blocked p) h e f = absurd (omega (arith, clash (h .answer) e))
+    after-found (Unreached p) h e f = absurd (omega (arith, clash (h .answer) e))
+    after-found (Stopped n p) h e f = absurd (omega (arith, clash (h .answer) e))
+
+    -- A refusal is handed on.
+    pub after-refused : (t : Tried) (n : ℕ) → HandsTried t lent left r → r .ending ≡ E.Refused n →
+        HandsTried (afterChild t i go) lent left r
+    after-refused (Found l p) n h e = absurd (omega (arith, clash (h .answer) e))
+    after-refused (Blocked p) n h e = absurd (omega (arith, clash (h .answer) e))
+    after-refused (Unreached p) n h e = absurd (omega (arith, clash (h .answer) e))
+    after-refused (Stopped m p) n h e = record { answer = h .answer; links = h .links }
+
+    -- A child that fails, in either way, is left behind, and the chain is as it was (RULES 13.11, 13.17).
+    pub after-blocked : (t : Tried) → HandsTried t lent left r → r .ending ≡ E.Blocked →
+        (afterChild t i go ≡ go (r .pops)) × (left ≡ lent)
+    after-blocked (Found l p) h e = absurd (omega (arith, clash (h .answer) e))
+    after-blocked (Blocked p) h e = (ap (λ (a : D.Tried). go (a .pops)) (sym (h .answer)), h .links)
+    after-blocked (Unreached p) h e = absurd (omega (arith, clash (h .answer) e))
+    after-blocked (Stopped n p) h e = absurd (omega (arith, clash (h .answer) e))
+
+    pub after-unreached : (t : Tried) → HandsTried t lent left r → r .ending ≡ E.Unreached →
+        (afterChild t i go ≡ go (r .pops)) × (left ≡ lent)
+    after-unreached (Found l p) h e = absurd (omega (arith, clash (h .answer) e))
+    after-unreached (Blocked p) h e = absurd (omega (arith, clash (h .answer) e))
+    after-unreached (Unreached p) h e = (ap (λ (a : D.Tried). go (a .pops)) (sym (h .answer)), h .links)
+    after-unreached (Stopped n p) h e = absurd (omega (arith, clash (h .answer) e))
+
+  -- ---- What follows a root.
+
+  module _ (go : ℕ → Chained) where
+    rooted-ends : (t : Tried) → HandsTried t lent left r → isBlocked (r .ending) ≡ false → HandsChain (atRoot t go) lent left r
+    rooted-ends (Found l p) h e = h
+    rooted-ends (Blocked p) h e = absurd (true≢false (sym (ap (λ (a : D.Tried). isBlocked (a .ending)) (h .answer)) ∙ e))
+    rooted-ends (Unreached p) h e = h
+    rooted-ends (Stopped n p) h e = h
+
+    rooted-blocked : (t : Tried) → HandsTried t lent left r → r .ending ≡ E.Blocked → (atRoot t go ≡ go (r .pops)) × (left ≡ lent)
+    rooted-blocked (Found l p) h e = absurd (omega (arith, clash (h .answer) e))
+    rooted-blocked (Blocked p) h e = (ap (λ (a : D.Tried). go (a .pops)) (sym (h .answer)), h .links)
+    rooted-blocked (Unreached p) h e = absurd (omega (arith, clash (h .answer) e))
+    rooted-blocked (Stopped n p) h e = absurd (omega (arith, clash (h .answer) e))
 
 -- ---- The steps.
 
@@ -82,53 +101,30 @@ module _ (toParent : ℕ → Option ℕ → Trial) (fromStart : ℕ → Trial) (
   abbrev hint : ℕ → Option ℕ → ℕ → Tried
   hint = R.tryHint toParent fromStart reaches budget
 
+  abbrev child : ℕ → ℕ → ℕ → Tried
+  child = R.tryChild toParent fromStart reaches budget
+
+  -- Hint i is popped again, with its children below k left (RULES 13.15).
+  abbrev pub again : ℕ → ℕ → ℕ → Tried
+  again i k p = popped (leb budget p) (children i k) p
+
   -- No child is left (RULES 13.16).
-  pub at-start : (i k p : ℕ) → k ≡ 0 → children i k p ≡ startedBy (fromStart i) i p
+  pub children-end : (i k p : ℕ) → k ≡ 0 → children i k p ≡ startedBy (fromStart i) i p
   unfolding R.tryChildren
-  at-start i k p e = rw e
+  children-end i k p e = rw e
 
   -- The next child is the one below k (RULES 13.12).
-  pub at-child : (i k p : ℕ) → (k ≡ 0 → ⊥) →
-      children i k p ≡
-      afterChild (offer (reaches (k - 1) i) (hint (k - 1) (some i)) p) i (λ q. popped (leb budget q) (children i (k - 1)) q)
-  unfolding R.tryChildren R.tryHint
-  at-child i zero p left = absurd (left refl)
-  at-child i (suc k) p left = rw (sub-one (suc k))
+  pub children-next : (i k p : ℕ) → 0 < k → children i k p ≡ afterChild (child (k - 1) i p) i (again i (k - 1))
+  unfolding R.tryChildren R.tryChild
+  children-next i zero p left = absurd (omega arith)
+  children-next i (suc k) p left = rw (sub-one (suc k))
 
-  module _ (i k p : ℕ) (left : k ≡ 0 → ⊥) where
-    -- Hint i is popped again and goes on with the children below that one (RULES 13.15).
-    abbrev again : ℕ → Tried
-    again q = popped (leb budget q) (children i (k - 1)) q
+  -- A pop within the budget, and one that is past it (RULES 13.21).
+  pub again-on : (i k p : ℕ) → p < budget → again i k p ≡ children i k (p + 1)
+  again-on i k p h = rw (lt-leb budget p h)
 
-    -- The child is passed over (RULES 13.13).
-    pub child-passed : reaches (k - 1) i ≡ false → children i k p ≡ again p
-    child-passed e = at-child i k p left ∙ rw e
-
-    -- The child is tried, and r is what the code has of it.
-    module _ (e : reaches (k - 1) i ≡ true) (r : D.Tried) (h : r ≡ handed (hint (k - 1) (some i) p)) where
-      abbrev child : Tried
-      child = hint (k - 1) (some i) p
-
-      tried : children i k p ≡ afterChild child i again
-      tried = at-child i k p left ∙ rw e
-
-      ending : {x : Ending} → r .ending ≡ x → handed child .ending ≡ x
-      ending f = ap (λ (t : D.Tried). t .ending) (sym h) ∙ f
-
-      -- Its chain gets i as its next link (RULES 13.23).
-      pub child-found : r .ending ≡ E.Found → ontoChain r i ≡ handed (children i k p)
-      child-found f = rw (h, tried) (sym (after-found child i again (ending f)))
-
-      -- A refusal is handed on.
-      pub child-stopped : (n : ℕ) → r .ending ≡ E.Refused n → r ≡ handed (children i k p)
-      child-stopped n f = rw (h, tried) (sym (after-stopped child i again n (ending f)))
-
-      -- A child that fails, in either way, is left behind (RULES 13.11, 13.17).
-      pub child-blocked : r .ending ≡ E.Blocked → children i k p ≡ again (r .pops)
-      child-blocked f = rw (h, tried) (after-blocked child i again (ending f))
-
-      pub child-unreached : r .ending ≡ E.Unreached → children i k p ≡ again (r .pops)
-      child-unreached f = rw (h, tried) (after-unreached child i again (ending f))
+  pub again-spent : (i k p : ℕ) → budget ≤ p → again i k p ≡ Stopped SPENT p
+  again-spent i k p h = rw (le-leb budget p h)
 
   module _ (count : ℕ) where
     -- The roots from r on.
@@ -136,24 +132,20 @@ module _ (toParent : ℕ → Option ℕ → Trial) (fromStart : ℕ → Trial) (
     roots r p = R.tryRoots toParent fromStart reaches budget (count - r) r p
 
     -- There is none above the last hint (RULES 13.18).
-    pub at-end : (r p : ℕ) → count ≤ r → roots r p ≡ NoWay p
+    pub roots-end : (r p : ℕ) → count ≤ r → roots r p ≡ NoWay p
     unfolding R.tryRoots
-    at-end r p h = let none-left : count - r ≡ 0 = omega arith in rw none-left
+    roots-end r p h = let none-left : count - r ≡ 0 = omega arith in rw none-left
 
     at-root : (r p : ℕ) → r < count → roots r p ≡ atRoot (hint r none p) (roots (r + 1))
     unfolding R.tryRoots
     at-root r p h = let one-here : count - r ≡ suc (count - (r + 1)) = omega arith in rw one-here
 
     -- Root r is tried, and t is what the code has of it.
-    module _ (r p : ℕ) (there : r < count) (t : D.Tried) (h : t ≡ handed (hint r none p)) where
+    module _ (r p : ℕ) (there : r < count) {lent left : List ℕ} {t : D.Tried} (h : HandsTried (hint r none p) lent left t) where
       -- One that is not blocked ends the search with what it came to (RULES 13.17, 13.19).
-      pub root-answers : isBlocked (t .ending) ≡ false → t ≡ answered (roots r p)
-      root-answers e =
-          rw (h, at-root r p there)
-          (sym (rooted-ends (hint r none p) (roots (r + 1)) (ap (λ (u : D.Tried). isBlocked (u .ending)) (sym h) ∙ e)))
+      pub root-answers : isBlocked (t .ending) ≡ false → HandsChain (roots r p) lent left t
+      root-answers e = rw (at-root r p there) (rooted-ends (roots (r + 1)) (hint r none p) h e)
 
-      -- One that is blocked moves up (RULES 13.18).
-      pub root-next : t .ending ≡ E.Blocked → roots r p ≡ roots (r + 1) (t .pops)
-      root-next e =
-          rw (h, at-root r p there)
-          (rooted-blocked (hint r none p) (roots (r + 1)) (ap (λ (u : D.Tried). u .ending) (sym h) ∙ e))
+      -- One that is blocked moves up, and the chain is as it was (RULES 13.18).
+      pub root-next : t .ending ≡ E.Blocked → (roots r p ≡ roots (r + 1) (t .pops)) × (left ≡ lent)
+      root-next e = rw (at-root r p there) (rooted-blocked (roots (r + 1)) (hint r none p) h e)

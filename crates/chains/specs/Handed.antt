@@ -1,20 +1,19 @@
--- What trying a hint comes to, as the code hands it back: an ending, the pops, and a chain in 64 places.
+-- What trying a hint comes to, as the code hands it back: an ending and the pops, and in the lent chain the links that were found
+-- (RULES 13.10 to 13.23).
 -- Assumes nothing.
-use Prim.Native.Nat.{ℕ, zero, suc, _+_, min}
-use mathlib.Core.Bool.{cond}
-use mathlib.Core.List.{List, [], _∷_}
+use Prim.Native.Nat.{ℕ}
+use mathlib.Core.Path.{_≡_}
+use mathlib.Core.List.{List}
 use mathlib.Core.Option.{Option, none, some}
-use lib.Dec.{leb}
-use lib.ListN.{length, take, set}
 use Rattle.chains.specs.declared.trial.Parent.{Parent}
 use Rattle.chains.specs.declared.trial.Parent.the-variants.{Goal, Hint}
 use Rattle.chains.specs.declared.trial.First.{First}
 use Rattle.chains.specs.declared.trial.First.the-variants.{Missing, Root}
 use Rattle.chains.specs.declared.tried.Ending.{Ending}
 use Rattle.chains.specs.declared.tried.Ending.the-variants as E
-use Rattle.chains.specs.declared.tried.Chain.{Chain}
 use Rattle.chains.specs.declared.tried.Tried.{Tried}
 use Rattle.chains.specs.Answer.{Chained, Way, NoWay, Refused}
+use Rattle.chains.specs.Links.{linkedBy}
 use Rattle.chains.specs.Recursive as R
 
 abbrev pub parentOf : Parent → Option ℕ
@@ -25,41 +24,44 @@ abbrev pub firstIndex : First → Option ℕ
 firstIndex Missing = none
 firstIndex (Root r) = some r
 
--- The first m of a list, and zero after its end.
-unfoldable pub pad : ℕ → List ℕ → List ℕ
-pad zero l = []
-pad (suc m) [] = 0 ∷ pad m []
-pad (suc m) (x ∷ l) = x ∷ pad m l
+abbrev pub triedTo : Ending → ℕ → Tried
+triedTo ending pops = record { ending = ending; pops = pops }
 
--- A chain has at most as many links as there are hints, so 64 are enough (`way-links` of proofs/Links).
-unfoldable pub chainOf : List ℕ → Chain
-unfolding pad
-chainOf l = record { count = min 64 (length l); all = pad 64 l }
+-- ---- A hint that was tried.
 
--- The hints of a chain.
-unfoldable pub linksIn : Chain → List ℕ
-linksIn c = take (c .count) (c .all)
+abbrev pub triedOf : R.Tried → Tried
+triedOf (R.Found l p) = triedTo E.Found p
+triedOf (R.Blocked p) = triedTo E.Blocked p
+triedOf (R.Unreached p) = triedTo E.Unreached p
+triedOf (R.Stopped n p) = triedTo (E.Refused n) p
 
-abbrev pub plain : Ending → ℕ → Tried
-plain ending pops = record { ending = ending; pops = pops; chain = chainOf [] }
+-- Links that are found stand behind those that were there; where there are none the chain stays as it was.
+abbrev pub chainAfter : R.Tried → List ℕ → List ℕ
+chainAfter (R.Found l p) chain = linkedBy chain l
+chainAfter (R.Blocked p) chain = chain
+chainAfter (R.Unreached p) chain = chain
+chainAfter (R.Stopped n p) chain = chain
 
-abbrev pub ontoChain : Tried → ℕ → Tried
-ontoChain t i =
-    cond (leb 64 (t .chain .count)) t
-    (record {
-      ending = t .ending;
-      pops = t .pops;
-      chain = record { count = t .chain .count + 1; all = set (t .chain .all) (t .chain .count) i };
-    })
+pub record HandsTried (t : R.Tried) (lent left : List ℕ) (r : Tried) : Type 0 where
+  pub answer : r ≡ triedOf t
+  pub links : left ≡ chainAfter t lent
 
-abbrev pub handed : R.Tried → Tried
-handed (R.Found l p) = record { ending = E.Found; pops = p; chain = chainOf l }
-handed (R.Blocked p) = plain E.Blocked p
-handed (R.Unreached p) = plain E.Unreached p
-handed (R.Stopped n p) = plain (E.Refused n) p
+-- ---- A whole search: no chain is an ending that does not reach.
 
--- A whole search: no chain is an ending that does not reach.
-abbrev pub answered : Chained → Tried
-answered (Way l p) = handed (R.Found l p)
-answered (NoWay p) = plain E.Unreached p
-answered (Refused n p) = plain (E.Refused n) p
+abbrev pub endOf : Chained → R.Tried
+endOf (Way l p) = R.Found l p
+endOf (NoWay p) = R.Unreached p
+endOf (Refused n p) = R.Stopped n p
+
+abbrev pub HandsChain : Chained → List ℕ → List ℕ → Tried → Type 0
+HandsChain answer lent left r = HandsTried (endOf answer) lent left r
+
+-- The answer that an ending with the links of a chain tells of.
+unfoldable pub chainedOf : Tried → List ℕ → Chained
+chainedOf tried links = by (tried .ending)
+  where
+    by : Ending → Chained
+    by E.Found = Way links (tried .pops)
+    by E.Blocked = NoWay (tried .pops)
+    by E.Unreached = NoWay (tried .pops)
+    by (E.Refused n) = Refused n (tried .pops)

@@ -76,6 +76,11 @@ module _ (toParent : ℕ → Option ℕ → Trial) (fromStart : ℕ → Trial) (
   unfoldable pub tryHint : ℕ → Option ℕ → ℕ → Tried
   tryHint i parent p = hintBy (tryChildren i i) i parent p
 
+  -- A child of i, where it is in reach (RULES 13.13).
+  unfoldable pub tryChild : ℕ → ℕ → ℕ → Tried
+  unfolding tryHint
+  tryChild child i p = offer (reaches child i) (tryHint child (some i)) p
+
   -- The roots from r on, n of them (RULES 13.18).
   unfoldable pub tryRoots : ℕ → ℕ → ℕ → Chained
   tryRoots zero r p = NoWay p

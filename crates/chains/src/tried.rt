@@ -1,7 +1,8 @@
-// What trying a hint comes to, with the pops made so far (docs/RULES.md, 13.10 to 13.21).
+// What trying a hint comes to, with the pops made so far, and the chain of hints that is found (docs/RULES.md, 13.10 to 13.23).
 ghost use mathlib.Core.Path.{_≡_};
-ghost use lib.ListN.{length};
-ghost use Rattle.chains.specs.Handed.{linksIn, plain, ontoChain};
+ghost use lib.ListN.{length, getD};
+ghost use Rattle.chains.specs.Links.{linksIn, linkedTo};
+ghost use Rattle.chains.specs.Handed.{triedTo};
 
 // A chain was found; the hint's way to its parent is not safe; that way is safe, and no way to the hint is; or a refusal.
 pub enum Ending {
@@ -11,63 +12,49 @@ pub enum Ending {
     Refused(u64),
 }
 
-// Hints by their index, the first to be waited at first.
-pub struct Chain {
-    pub count: usize,
-    pub all: [usize; 64],
-}
-
+// How trying ended, and the pops made so far. A chain that was found stands in a list that the caller lends: the count of its
+// links, then they, hints by their index, the first to be waited at first.
 pub struct Tried {
     pub ending: Ending,
     pub pops: u64,
-    pub chain: Chain,
-}
-
-impl Chain {
-    // How many hints there are.
-    pub fn len(self) -> usize
-        ensures { λ r. ⌜ r ≡ length (linksIn self) ⌝ }
-    {
-        let n = self.count;
-        if 64 < n {
-            return 64;
-        }
-        n
-    }
 }
 
 impl Tried {
-    // An ending with no chain.
     pub fn ended(ending: Ending, pops: u64) -> Tried
-        ensures { λ r. ⌜ r ≡ plain ending pops ⌝ }
+        ensures { λ r. ⌜ r ≡ triedTo ending pops ⌝ }
     {
-        Tried {
-            ending,
-            pops,
-            chain: Chain {
-                count: 0,
-                all: [0; 64],
-            },
-        }
+        Tried { ending, pops }
     }
+}
 
-    // The same with one hint more behind the others, where there is room.
-    pub fn with_link(self, i: usize) -> Tried
-        ensures { λ r. ⌜ r ≡ ontoChain self i ⌝ }
-    {
-        let before = self.chain;
-        let n = before.count;
-        if 64 <= n {
-            return self;
-        }
-        let ending = self.ending;
-        let mut chain = before;
-        chain.all[n] = i;
-        chain.count = n + 1;
-        Tried {
-            ending,
-            pops: self.pops,
-            chain,
-        }
+// How many links a chain has.
+pub fn links_of(chain: &[u64; 65]) -> usize
+    ensures { λ r. ⌜ r ≡ length (linksIn (now (chain .entry))) ⌝ }
+{
+    let n = chain[0];
+    if 64 < n {
+        return 64;
+    }
+    n as usize
+}
+
+// Link k of a chain, and 0 where there is none.
+pub fn link_at(chain: &[u64; 65], k: usize) -> usize
+    ensures { λ r. ⌜ r ≡ getD (linksIn (now (chain .entry))) k 0 ⌝ }
+{
+    if k < links_of(chain) {
+        return chain[k + 1] as usize;
+    }
+    0
+}
+
+// One link more behind the others, where there is room.
+pub fn add_link(chain: &mut [u64; 65], i: usize)
+    ensures { λ _. ⌜ now (chain .exit) ≡ linkedTo (now (chain .entry)) i ⌝ }
+{
+    let n = chain[0];
+    if n < 64 {
+        chain[n as usize + 1] = i as u64;
+        chain[0] = n + 1;
     }
 }

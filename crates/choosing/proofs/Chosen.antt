@@ -6,25 +6,23 @@ use mathlib.Core.Logic.{_⊎_, inl, inr}
 use mathlib.Core.Bool.{Bool, true, false, not, cond, true≢false}
 use mathlib.Core.List.{List, [], _∷_}
 use Prim.Native.Nat.{ℕ, zero, suc, _+_, _≤_, _<_}
-use native.Mathlib.Nat.{not-suc-le-zero, le-of-suc-le-suc, add-zero}
+use native.Mathlib.Nat.{not-suc-le-zero, add-zero}
 use native.Mathlib.Numerals.{add-one}
 use native.Mathlib.Omega.{arith}
 use borrow.Author.Tests.{not-true, not-false, ltb-true, ltb-false}
 use lib.Dec.{ltb}
 use lib.IntN.{ℤ}
 use lib.ListN.{length, drop, getD, length-drop}
-use lib.Seq.{drop-cons, getD-drop}
+use lib.Seq.{getD-drop}
 use lib.Signed.{ltZ, _≤ℤ_, _<ℤ_, ltZ-yes, ltZ-no, ≤ℤ-refl, <ℤ-≤ℤ-trans, clashℤ}
 use Rattle.floats.proofs.Tests.{passed, failed}
 use Rattle.numbers.specs.declared.time.Duration.{Duration}
 use Rattle.numbers.proofs.Integers.{at-most-trans, below-or-at-most}
-use Rattle.numbers.proofs.Exact.{both}
-use Rattle.ranking.specs.Ranked.{goesBefore, sorted}
-use Rattle.ranking.specs.Hints.{blankRanked}
-use Rattle.ranking.specs.declared.order.RankedHint.{RankedHint}
+use Rattle.waits.specs.Words.{blankRanked}
+use Rattle.waits.specs.declared.hint.RankedHint.{RankedHint}
 use Rattle.chains.specs.declared.trial.First.the-variants.{Missing, Root}
 use Rattle.choosing.specs.Roots.{countBelow, countLevel, firstRoot}
-use Rattle.choosing.proofs.Counts.{level-in, no-root, root-found}
+use Rattle.choosing.proofs.Counts.{from-here, level-in, no-root, root-found}
 
 -- The contour of hint i.
 abbrev pub contourAt : List RankedHint → ℕ → ℤ
@@ -44,40 +42,6 @@ pub record Chosen (goal : Duration) (l : List RankedHint) (i : ℕ) : Type 0 whe
 -- Every contour is below the goal's.
 abbrev pub AllBelow : Duration → List RankedHint → Type 0
 AllBelow goal l = (j : ℕ) → j < length l → contourAt l j <ℤ goal .0
-
--- ---- Ranked hints have contours that never fall (RULES 11.6).
-
-module _ (x y : RankedHint) (l : List RankedHint) (ranked : sorted (x ∷ (y ∷ l)) ≡ true) where
-  next-sorted : sorted (y ∷ l) ≡ true
-  unfolding sorted
-  next-sorted = both (not (goesBefore y x)) (sorted (y ∷ l)) ranked .1
-
-  next-rises : x .contour .0 ≤ℤ y .contour .0
-  unfolding sorted goesBefore
-  next-rises =
-      let behind : goesBefore y x ≡ false = not-true (goesBefore y x) (both (not (goesBefore y x)) (sorted (y ∷ l)) ranked .0) in
-      ltZ-no (failed (by (ltZ (y .contour .0) (x .contour .0)) _ behind))
-    where
-      by : (t rest : Bool) → cond t true rest ≡ false → t ≡ false
-      by true rest e = e
-      by false rest e = refl
-
-first-lowest : (x : RankedHint) (l : List RankedHint) → sorted (x ∷ l) ≡ true →
-    (j : ℕ) → j < length l → x .contour .0 ≤ℤ contourAt l j
-first-lowest x [] e j h = absurd (not-suc-le-zero h)
-first-lowest x (y ∷ l) e zero h = next-rises x y l e
-first-lowest x (y ∷ l) e (suc j) h =
-    at-most-trans _ (y .contour .0) _ (next-rises x y l e)
-    (first-lowest y l (next-sorted x y l e) j (le-of-suc-le-suc h))
-
-pub sorted-rises : (l : List RankedHint) → sorted l ≡ true → Rises l
-sorted-rises [] e i j g h = absurd (not-suc-le-zero h)
-sorted-rises (x ∷ l) e zero zero g h = ≤ℤ-refl (x .contour .0)
-sorted-rises (x ∷ l) e zero (suc j) g h = first-lowest x l e j (le-of-suc-le-suc h)
-sorted-rises (x ∷ l) e (suc i) zero g h = absurd (not-suc-le-zero g)
-sorted-rises (x ∷ []) e (suc i) (suc j) g h = absurd (not-suc-le-zero (le-of-suc-le-suc h))
-sorted-rises (x ∷ (y ∷ l)) e (suc i) (suc j) g h =
-    sorted-rises (y ∷ l) (next-sorted x y l e) i j (le-of-suc-le-suc g) (le-of-suc-le-suc h)
 
 -- ---- How many in front pass a test: they do, and the next does not.
 
@@ -182,7 +146,7 @@ module _ (goal : Duration) (l : List RankedHint) where
   none-found = no-root goal l at refl
 
   found : at < length l → Root root ≡ firstRoot goal l
-  found some = root-found goal l at refl (getD l at blankRanked) (rw (add-one at) (drop-cons l at blankRanked some))
+  found some = root-found goal l at refl (getD l at blankRanked) (from-here l at some)
 
   behind-at : (k : ℕ) → contourAt behind k ≡ contourAt l (at + 1 + k)
   behind-at k = ap (λ (h : RankedHint). h .contour .0) (getD-drop (at + 1) l k blankRanked)

@@ -1,4 +1,4 @@
--- A loop along the hints that a list holds: how many are below a contour or level with it, and the root.
+-- A loop along a list of hints: how many are below a contour or level with it, and the root.
 -- Assumes nothing.
 use mathlib.Core.Path.{_≡_}
 use mathlib.Core.Bool.{Bool, true, false, cond}
@@ -6,30 +6,18 @@ use mathlib.Core.List.{List, [], _∷_}
 use Prim.Native.Nat.{ℕ, _+_, _≤_, _<_}
 use native.Mathlib.Numerals.{add-one}
 use native.Mathlib.Omega.{arith}
-use lib.ListN.{length, take, drop, getD, length-take, drop-of-length-le}
-use lib.Seq.{drop-cons, getD-take}
+use lib.ListN.{length, drop, getD, drop-of-length-le}
+use lib.Seq.{drop-cons}
 use lib.Signed.{ltZ}
 use Rattle.numbers.specs.declared.time.Duration.{Duration}
-use Rattle.ranking.specs.Hints.{rankedHeld}
-use Rattle.ranking.specs.declared.order.RankedHint.{RankedHint}
-use Rattle.ranking.specs.declared.ranked_hints.RankedHints.{RankedHints}
+use Rattle.waits.specs.Words.{blankRanked}
+use Rattle.waits.specs.declared.hint.RankedHint.{RankedHint}
 use Rattle.chains.specs.declared.trial.First.the-variants.{Missing, Root}
 use Rattle.choosing.specs.Roots.{countBelow, countLevel, firstRoot}
 
--- ---- The hints that a list holds.
-
--- In an array of 64 places they are at most 64.
-pub held-in : (list : RankedHints) → length (list .all) ≡ 64 → length (rankedHeld list) ≤ 64
-unfolding rankedHeld
-held-in list long = omega (arith, length-take (list .count) (list .all))
-
 -- From place i on: what stands there, and the others.
-pub held-from : (list : RankedHints) (i : ℕ) (d : RankedHint) → i < length (rankedHeld list) →
-    drop i (rankedHeld list) ≡ getD (list .all) i d ∷ drop (i + 1) (rankedHeld list)
-unfolding rankedHeld
-held-from list i d h =
-    let counted : i < list .count = omega (arith, length-take (list .count) (list .all)) in
-    rw (add-one i, drop-cons (take (list .count) (list .all)) i d h, getD-take (list .count) (list .all) i d counted)
+pub from-here : (l : List RankedHint) (i : ℕ) → i < length l → drop i l ≡ getD l i blankRanked ∷ drop (i + 1) l
+from-here l i h = rw (add-one i) (drop-cons l i blankRanked h)
 
 -- ---- The counts: here is the first that counts no more, or one more counts, or there is none left.
 

@@ -18,7 +18,7 @@ use Rattle.numbers.specs.declared.time.TimePoint.{TimePoint}
 use Rattle.shapes.specs.Leg.{placeOf}
 use Rattle.shapes.specs.Vector.{vectorDifference}
 use Rattle.courses.specs.Norm.{normOf}
-use Rattle.ranking.specs.declared.order.RankedHint.{RankedHint}
+use Rattle.waits.specs.declared.hint.RankedHint.{RankedHint}
 use Rattle.chains.specs.declared.trial.First.{First}
 use Rattle.chains.specs.declared.trial.First.the-variants as F
 use Rattle.choosing.specs.declared.roots.Contour.{Contour}

@@ -4,13 +4,13 @@ use courses::norm;
 use numbers::time::Duration;
 use numbers::time::Span;
 use numbers::time::TimePoint;
-use ranking::ranked_hints::RankedHints;
 use root::nearest::Root;
+use waits::hint_list;
 use ways::trip::Trip;
 ghost use mathlib.Core.Path.{_≡_};
 ghost use Prim.Native.Nat.{_+_, _≤_, _<_};
 ghost use lib.ListN.{length, drop};
-ghost use Rattle.ranking.specs.Hints.{rankedHeld};
+ghost use Rattle.waits.specs.Words.{hintsIn};
 ghost use Rattle.choosing.specs.Roots.{goalContour, lateness, countBelow, countLevel, firstRoot};
 
 // A contour, or a refusal and its number.
@@ -52,13 +52,13 @@ pub fn goal_contour(trip: Trip, arrival: TimePoint) -> Contour
 }
 
 // How many hints stand in front of the first whose contour is not below this one.
-fn count_below(hints: RankedHints, contour: Duration) -> usize
-    ensures { λ r. ⌜ r ≡ countBelow contour (rankedHeld hints) ⌝ }
+fn count_below(hints: &[u64; 385], contour: Duration) -> usize
+    ensures { λ r. ⌜ r ≡ countBelow contour (hintsIn (now (hints .entry))) ⌝ }
 {
-    let n = hints.len();
+    let n = hint_list::count_of(hints);
     let mut i = 0;
     while i < n {
-        let h = hints.all[i];
+        let h = hint_list::hint_at(hints, i);
         if !h.contour.is_below(contour) {
             return i;
         }
@@ -68,14 +68,14 @@ fn count_below(hints: RankedHints, contour: Duration) -> usize
 }
 
 // How many of the hints from `from` on have a contour that is not above this one, before the first that has.
-fn count_level(hints: RankedHints, contour: Duration, from: usize) -> usize
-    requires { ⌜ from ≤ length (rankedHeld hints) ⌝ }
-    ensures { λ r. ⌜ r ≡ countLevel contour (drop from (rankedHeld hints)) ⌝ }
+fn count_level(hints: &[u64; 385], contour: Duration, from: usize) -> usize
+    requires { ⌜ from ≤ length (hintsIn (now hints)) ⌝ }
+    ensures { λ r. ⌜ r ≡ countLevel contour (drop from (hintsIn (now (hints .entry)))) ⌝ }
 {
-    let n = hints.len();
+    let n = hint_list::count_of(hints);
     let mut i = from;
     while i < n {
-        let h = hints.all[i];
+        let h = hint_list::hint_at(hints, i);
         if contour.is_below(h.contour) {
             return i - from;
         }
@@ -85,14 +85,14 @@ fn count_level(hints: RankedHints, contour: Duration, from: usize) -> usize
 }
 
 // The last hint of the first contour that is not below the goal's.
-pub fn first_root(hints: RankedHints, goal: Duration) -> First
-    ensures { λ r. ⌜ r ≡ firstRoot goal (rankedHeld hints) ⌝ }
+pub fn first_root(hints: &[u64; 385], goal: Duration) -> First
+    ensures { λ r. ⌜ r ≡ firstRoot goal (hintsIn (now (hints .entry))) ⌝ }
 {
-    let n = hints.len();
+    let n = hint_list::count_of(hints);
     let at = count_below(hints, goal);
     if n <= at {
         return First::Missing;
     }
-    let h = hints.all[at];
+    let h = hint_list::hint_at(hints, at);
     First::Root(at + count_level(hints, h.contour, at + 1))
 }

@@ -49,7 +49,6 @@ pub mod telling
 pub mod answering
 pub mod handing
 pub mod time_handing
-pub mod hint_handing
 pub mod arrival_handing
 pub mod taking
 pub mod geometry_exports

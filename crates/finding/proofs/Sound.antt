@@ -1,13 +1,13 @@
 -- The search for hints keeps them sound: on an input of the table it is refused by 4, 7 and 10 only (RULES 4.4, 4.7, 4.10).
 -- Assumes nothing.
-use Prim.Native.Nat.{ℕ, suc}
+use Prim.Native.Nat.{ℕ, suc, _≤_}
 use mathlib.Core.Path.{_≡_, refl, subst}
 use mathlib.Core.Logic.{_⊎_, inl, inr, ⊎-elim}
 use mathlib.Core.Bool.{true, false}
 use mathlib.Core.List.{List, [], _∷_}
+use native.Mathlib.Omega.{arith}
 use lib.IntN.{ℤ, pos, _-ℤ_, +ℤ-invr}
 use lib.Signed.{ltZ, _≤ℤ_, _<ℤ_, ltZ-no, ≤ℤ-refl}
-use lib.Ieee.{Float}
 use Rattle.lists.specs.Listed.{every}
 use Rattle.floats.proofs.Tests.{failed, is-true}
 use Rattle.numbers.proofs.Integers.{below-or-at-most, at-most-trans, difference-mono}
@@ -29,114 +29,112 @@ use Rattle.courses.specs.declared.course.Heading.the-variants as H
 use Rattle.lines.proofs.OnDomain.{Steady, Charted, Headed, leg-runs, course-given}
 use Rattle.obstacles.specs.Obstacle.{Obstacle, legsOf}
 use Rattle.obstacles.proofs.Accepted.{isDriven, isFit}
-use Rattle.waits.specs.Hints.{withWait}
+use Rattle.waits.specs.Hints.{oneWait}
 use Rattle.waits.specs.declared.hint.Wait.{Wait}
-use Rattle.waits.specs.declared.wait_hints.WaitHints.{WaitHints}
-use Rattle.waits.proofs.Sound.{MayBe, Sound, none-sound, wait-sound, either-sound, after-sound}
+use Rattle.waits.proofs.Sound.{MayBe, Sound, none-sound, wait-sound, either-sound, then-sound}
 use Rattle.waiting.specs.Crossing.{crossingWait}
 use Rattle.waiting.specs.Standing.{standingWait}
 use Rattle.waiting.specs.Oncoming.{oncomingWait}
 use Rattle.waiting.proofs.OnDomain.{Waited, NeverRefused, crossing-waited, standing-waited, oncoming-waited}
 use Rattle.chasing.specs.declared.chase.Gaps.{Gaps}
-use Rattle.following.proofs.Sound.{following-sound}
-use Rattle.finding.specs.LegHints.{partOf, withPart, withLeg}
-use Rattle.finding.specs.Walk.{gapsOf, hintBox, nearLeg, withLegs, withObstacle, withObstacles, hintsOf}
+use Rattle.following.proofs.Sound.{follow-sound}
+use Rattle.finding.specs.LegHints.{partOf, partHints, legHints}
+use Rattle.finding.specs.Walk.{gapsOf, otherOf, hintBox, nearLeg, nearLegs, nearObstacle, nearObstacles, hintsOf}
+use Rattle.finding.specs.declared.walk.Other.{Other}
 use Rattle.finding.specs.declared.leg_hints.Part.{Part}
 use Rattle.finding.specs.declared.leg_hints.Part.the-variants as P
 
 -- What a part answers is stored, where each refusal that it has may be.
-part-stored : {may : ℕ → Type 0} (hints : WaitHints) (wait : Wait) (obstacle : ℕ) →
-    Sound hints → Waited may wait → ((n : ℕ) → may n → MayBe n) → Sound (withWait hints wait obstacle)
-part-stored {may} hints wait obstacle s answered told =
-    wait-sound hints wait obstacle s (λ n e. told n (subst (Waited may) e answered))
+part-stored : {may : ℕ → Type 0} (n : ℕ) (wait : Wait) (obstacle : ℕ) →
+    n ≤ 64 → Waited may wait → ((number : ℕ) → may number → MayBe number) → Sound n (oneWait n wait obstacle)
+part-stored {may} n wait obstacle few answered told =
+    wait-sound n wait obstacle few (λ number e. told number (subst (Waited may) e answered))
 
 -- ---- One leg.
 
 module _ {own : Leg} {agent : Course} (h : Charted own agent) where
   module _ (leg : Run) (gaps : Gaps) (obstacle : ℕ) (g : Steady leg) (hl : isLimit (gaps .squared) ≡ true) where
-    with-part-sound : (hints : WaitHints) → Sound hints → Sound (withPart agent leg gaps obstacle hints)
-    unfolding withPart
-    with-part-sound hints s = by (partOf agent leg (dotOf (leg .velocity) (agent .direction))) refl
+    part-sound : (n : ℕ) → n ≤ 64 → Sound n (partHints agent leg gaps obstacle n)
+    unfolding partHints
+    part-sound n few = by (partOf agent leg (dotOf (leg .velocity) (agent .direction))) refl
       where
-        stored : (wait : Wait) → Waited NeverRefused wait → Sound (withWait hints wait obstacle)
-        stored wait answered = part-stored hints wait obstacle s answered (λ n never. absurd never)
+        stored : (wait : Wait) → Waited NeverRefused wait → Sound n (oneWait n wait obstacle)
+        stored wait answered = part-stored n wait obstacle few answered (λ number never. absurd never)
 
         by : (part : Part) → partOf agent leg (dotOf (leg .velocity) (agent .direction)) ≡ part →
-            Sound (withPart agent leg gaps obstacle hints)
+            Sound n (partHints agent leg gaps obstacle n)
         by P.Oncoming e = rw e (stored (oncomingWait agent leg (gaps .squared)) (oncoming-waited (gaps .squared) h g hl))
-        by P.Outpacing e = rw e s
-        by P.Following e = rw e (following-sound agent leg obstacle gaps (dotOf (leg .velocity) (agent .direction)) hints s)
+        by P.Outpacing e = rw e (none-sound n few)
+        by P.Following e = rw e (follow-sound agent leg obstacle gaps (dotOf (leg .velocity) (agent .direction)) n few)
         by P.Standing e = rw e (stored (standingWait agent leg (gaps .squared)) (standing-waited (gaps .squared) h g hl))
 
-    with-leg-sound : (hints : WaitHints) → Sound hints → Sound (withLeg agent leg gaps obstacle hints)
-    unfolding withLeg
-    with-leg-sound hints s =
+    leg-sound : (n : ℕ) → n ≤ 64 → Sound n (legHints agent leg gaps obstacle n)
+    unfolding legHints
+    leg-sound n few =
         let crossing = crossingWait agent leg (gaps .squared) in
-        after-sound (withWait hints crossing obstacle) (withPart agent leg gaps obstacle)
-        (part-stored hints crossing obstacle s (crossing-waited (gaps .squared) h g hl) (λ n.
-        ⊎-elim (λ (e : n ≡ 4). inr (inl e)) (λ (e : n ≡ 7). inr (inr (inl e)))))
-        with-part-sound
+        then-sound n (oneWait n crossing obstacle) (partHints agent leg gaps obstacle)
+        (part-stored n crossing obstacle few (crossing-waited (gaps .squared) h g hl) (λ number.
+        ⊎-elim (λ (e : number ≡ 4). inl e) (λ (e : number ≡ 7). inr (inl e))))
+        part-sound
 
   -- ---- The legs of an obstacle.
 
-  module _ (bounds : BoundingBox) (footprint : Float) (gaps : Gaps) (obstacle : ℕ) (hl : isLimit (gaps .squared) ≡ true) where
-    near-leg-sound : (leg : Leg) (hints : WaitHints) →
-        isLeg leg ≡ true → isRising leg ≡ true → Sound hints → Sound (nearLeg agent bounds footprint gaps obstacle leg hints)
+  module _ (bounds : BoundingBox) (other : Other) (hl : isLimit (other .gaps .squared) ≡ true) where
+    near-leg-sound : (leg : Leg) (n : ℕ) →
+        isLeg leg ≡ true → isRising leg ≡ true → n ≤ 64 → Sound n (nearLeg agent bounds other leg n)
     unfolding nearLeg
-    near-leg-sound leg hints e rising s =
+    near-leg-sound leg n e rising few =
         let r = leg-runs leg e rising in
-        let near = with-leg-sound (r .run) gaps obstacle (r .steady) hl hints s in
-        rw (r .ran) (either-sound (overlap bounds (hintBox footprint leg)) _ hints near s)
+        let near = leg-sound (r .run) (other .gaps) (other .number) (r .steady) hl n few in
+        rw (r .ran) (either-sound n (overlap bounds (hintBox (other .footprint) leg)) _ _ near (none-sound n few))
 
-    legs-sound : (legs : List Leg) (hints : WaitHints) →
-        every isDriven legs ≡ true → Sound hints → Sound (withLegs agent bounds footprint gaps obstacle legs hints)
-    unfolding withLegs every
-    legs-sound [] hints e s = s
-    legs-sound (leg ∷ legs) hints e s =
+    legs-sound : (legs : List Leg) (n : ℕ) → every isDriven legs ≡ true → n ≤ 64 → Sound n (nearLegs agent bounds other legs n)
+    unfolding nearLegs every
+    legs-sound [] n e few = none-sound n few
+    legs-sound (leg ∷ legs) n e few =
         let here = both (isDriven leg) (every isDriven legs) e in
         let driven = both (isLeg leg) (isRising leg) (here .0) in
-        after-sound (nearLeg agent bounds footprint gaps obstacle leg hints) (withLegs agent bounds footprint gaps obstacle legs)
-        (near-leg-sound leg hints (driven .0) (driven .1) s)
-        (λ found. legs-sound legs found (here .1))
+        then-sound n (nearLeg agent bounds other leg n) (nearLegs agent bounds other legs)
+        (near-leg-sound leg n (driven .0) (driven .1) few)
+        (λ m. legs-sound legs m (here .1))
 
   -- ---- The obstacles.
 
   module _ (p : CircularProfile) (bounds : BoundingBox) (hp : isProfile p ≡ true) where
-    squared-limit : (q : CircularProfile) → isProfile q ≡ true → isLimit (gapsOf p q .squared) ≡ true
-    unfolding gapsOf
-    squared-limit q hq = critical-squared-limit p q hp hq
+    squared-limit : (number : ℕ) (q : CircularProfile) → isProfile q ≡ true → isLimit (otherOf p number q .gaps .squared) ≡ true
+    unfolding gapsOf otherOf
+    squared-limit number q hq = critical-squared-limit p q hp hq
 
-    obstacle-sound : (number : ℕ) (o : Obstacle) (hints : WaitHints) →
-        isFit o ≡ true → Sound hints → Sound (withObstacle agent p bounds number o hints)
-    unfolding withObstacle
-    obstacle-sound number o hints e s =
+    obstacle-sound : (number : ℕ) (o : Obstacle) (n : ℕ) →
+        isFit o ≡ true → n ≤ 64 → Sound n (nearObstacle agent p bounds number o n)
+    unfolding nearObstacle
+    obstacle-sound number o n e few =
         let legs = legsOf (o .waypoints) in
         let fit = both (isProfile (o .profile)) (every isDriven legs) e in
-        let gaps = gapsOf p (o .profile) in
-        let hl = squared-limit (o .profile) (fit .0) in
-        let near = legs-sound bounds (o .profile .footprint) gaps number hl legs hints (fit .1) s in
-        either-sound (overlap bounds (o .bounds)) _ hints near s
+        let hl = squared-limit number (o .profile) (fit .0) in
+        let near = legs-sound bounds (otherOf p number (o .profile)) hl legs n (fit .1) few in
+        either-sound n (overlap bounds (o .bounds)) _ _ near (none-sound n few)
 
-    obstacles-sound : (number : ℕ) (os : List Obstacle) (hints : WaitHints) →
-        every isFit os ≡ true → Sound hints → Sound (withObstacles agent p bounds number os hints)
-    unfolding withObstacles every
-    obstacles-sound number [] hints e s = s
-    obstacles-sound number (o ∷ os) hints e s =
+    obstacles-sound : (number : ℕ) (os : List Obstacle) (n : ℕ) →
+        every isFit os ≡ true → n ≤ 64 → Sound n (nearObstacles agent p bounds number os n)
+    unfolding nearObstacles every
+    obstacles-sound number [] n e few = none-sound n few
+    obstacles-sound number (o ∷ os) n e few =
         let here = both (isFit o) (every isFit os) e in
-        after-sound (withObstacle agent p bounds number o hints) (withObstacles agent p bounds (suc number) os)
-        (obstacle-sound number o hints (here .0) s)
-        (λ found. obstacles-sound (suc number) os found (here .1))
+        then-sound n (nearObstacle agent p bounds number o n) (nearObstacles agent p bounds (suc number) os)
+        (obstacle-sound number o n (here .0) few)
+        (λ m. obstacles-sound (suc number) os m (here .1))
 
 -- All of them, for an agent and obstacles of the table (RULES 10.1 to 10.43).
 pub hints-sound : (p : CircularProfile) (leg : Leg) (bounds : BoundingBox) (obstacles : List Obstacle) →
     isProfile p ≡ true → isLeg leg ≡ true → isRising leg ≡ true → every isFit obstacles ≡ true →
-    Sound (hintsOf p leg bounds obstacles)
+    Sound 0 (hintsOf p leg bounds obstacles)
 unfolding hintsOf
 hints-sound p leg bounds obstacles hp e rising fit = by (courseOf leg) refl (course-given leg e rising)
   where
-    by : (heading : Heading) → courseOf leg ≡ heading → Headed leg heading → Sound (hintsOf p leg bounds obstacles)
-    by (H.Along agent) q h = rw q (obstacles-sound h p bounds hp 0 obstacles _ fit none-sound)
-    by H.Missing q h = rw q none-sound
+    by : (heading : Heading) → courseOf leg ≡ heading → Headed leg heading → Sound 0 (hintsOf p leg bounds obstacles)
+    by (H.Along agent) q h = rw q (obstacles-sound h p bounds hp 0 obstacles 0 fit (omega arith))
+    by H.Missing q h = rw q (none-sound 0 (omega arith))
     by (H.Refused n) q h = absurd h
 
 -- A leg of the table that lasts 10 ns or more is such an agent's (RULES 4.13).

@@ -1,13 +1,12 @@
 -- How the walks over legs and over obstacles go: a turn at a time, up to the end or a refusal.
 -- Assumes nothing.
 use Prim.Native.Nat.{ℕ, _+_, _-_, _≤_, _<_}
-use mathlib.Core.Path.{_≡_, refl, sym, ap, _∙_}
+use mathlib.Core.Path.{_≡_, refl}
 use mathlib.Core.Bool.{Bool, true, false, cond}
-use mathlib.Core.List.{List}
+use mathlib.Core.List.{List, []}
 use native.Mathlib.Omega.{arith}
 use native.Mathlib.Numerals.{add-one}
 use lib.ListN.{length, getD}
-use lib.Ieee.{Float}
 use Rattle.lists.specs.Listed.{listedTo}
 use Rattle.lists.proofs.Listed.{listed-done, listed-next}
 use Rattle.shapes.specs.Box.{overlap}
@@ -19,80 +18,79 @@ use Rattle.obstacles.specs.Obstacle.{Obstacle, legsOf}
 use Rattle.obstacles.specs.Lent.{Lent, startIn, profileIn, legIn, waypointsOf, obstacleIn}
 use Rattle.obstacles.specs.Boxes.{lastIn}
 use Rattle.obstacles.proofs.Reading.{legs-read}
-use Rattle.waits.specs.Hints.{after}
-use Rattle.waits.specs.declared.wait_hints.WaitHints.{WaitHints}
-use Rattle.waits.proofs.Storing.{going, ended, after-going, after-refused}
-use Rattle.chasing.specs.declared.chase.Gaps.{Gaps}
-use Rattle.finding.specs.Walk.{gapsOf, nearLeg, withLegs, withObstacle, withObstacles}
-
--- ---- A turn, by what was found in it, as the code tests that.
-
-goes-on : (found hints : WaitHints) (go : WaitHints → WaitHints) →
-    found ≡ hints → found .refused ≡ 0 → go found ≡ after hints go
-goes-on found hints go e none = sym (after-going found go (going found none)) ∙ ap (λ h. after h go) e
-
-ends : (found hints : WaitHints) (go : WaitHints → WaitHints) →
-    found ≡ hints → (found .refused ≡ 0 → ⊥) → found ≡ after hints go
-ends found hints go e refused = sym (after-refused found go (ended found refused)) ∙ ap (λ h. after h go) e
+use Rattle.waits.specs.Hints.{Hints, Of}
+use Rattle.waits.specs.Adding.{Added}
+use Rattle.waits.specs.declared.hint_list.Filled.{Filled}
+use Rattle.waits.specs.declared.hint_list.Filled.the-variants as F
+use Rattle.waits.proofs.Added.{added-none, added-then, added-ended}
+use Rattle.finding.specs.Walk.{otherOf, nearLeg, nearLegs, nearObstacle, nearObstacles}
+use Rattle.finding.specs.declared.walk.Other.{Other}
 
 -- ---- The legs of one obstacle, from leg i on, up to the waypoint at `last` (RULES 10.3).
 
-module _ (agent : Course) (bounds : BoundingBox) (footprint : Float) (gaps : Gaps) (o : ℕ) (f : ℕ → Leg) (last i : ℕ) where
-  abbrev legsFrom : ℕ → WaitHints → WaitHints
-  legsFrom j = withLegs agent bounds footprint gaps o (listedTo f last j)
+module _ (agent : Course) (bounds : BoundingBox) (other : Other) (f : ℕ → Leg) (last i : ℕ) where
+  abbrev legsFrom : ℕ → ℕ → Hints
+  legsFrom j = nearLegs agent bounds other (listedTo f last j)
 
-  -- At the end there are the hints that were found.
-  pub legs-walked : (hints : WaitHints) → last ≤ i → legsFrom i hints ≡ hints
-  unfolding withLegs
-  legs-walked hints h = rw (listed-done f last i h)
+  -- At the end nothing is added.
+  legs-done : (n : ℕ) → last ≤ i → legsFrom i n ≡ Of []
+  unfolding nearLegs
+  legs-done n h = rw (listed-done f last i h)
+
+  pub legs-walked : (n : ℕ) (words : List ℕ) → last ≤ i → Added (legsFrom i n) n words words (F.Of n)
+  legs-walked n words h = rw (legs-done n h) (added-none n words)
 
   -- Past a leg that refuses nothing the walk is the rest, behind what was found.
-  pub leg-goes-on : (found hints : WaitHints) → i < last → found ≡ nearLeg agent bounds footprint gaps o (f i) hints →
-      found .refused ≡ 0 → legsFrom (i + 1) found ≡ legsFrom i hints
-  unfolding withLegs
-  leg-goes-on found hints h e none = rw (listed-next f last i h) (goes-on found _ (legsFrom (i + 1)) e none)
+  pub leg-goes-on : (n m : ℕ) {lent mid left : List ℕ} {r : Filled} → i < last →
+      Added (nearLeg agent bounds other (f i) n) n lent mid (F.Of m) → Added (legsFrom (i + 1) m) m mid left r →
+      Added (legsFrom i n) n lent left r
+  unfolding nearLegs
+  leg-goes-on n m h here rest = rw (listed-next f last i h) (added-then n m _ (legsFrom (i + 1)) here rest)
 
   -- A leg that refuses ends it.
-  pub leg-ends : (found hints : WaitHints) → i < last → found ≡ nearLeg agent bounds footprint gaps o (f i) hints →
-      (found .refused ≡ 0 → ⊥) → found ≡ legsFrom i hints
-  unfolding withLegs
-  leg-ends found hints h e refused = rw (listed-next f last i h) (ends found _ (legsFrom (i + 1)) e refused)
+  pub leg-ends : (n number : ℕ) {lent left : List ℕ} → i < last →
+      Added (nearLeg agent bounds other (f i) n) n lent left (F.Refused number) →
+      Added (legsFrom i n) n lent left (F.Refused number)
+  unfolding nearLegs
+  leg-ends n number h here = rw (listed-next f last i h) (added-ended n number _ (legsFrom (i + 1)) here)
 
 -- ---- The obstacles, from obstacle o on (RULES 10.3, 10.5).
 
 module _ (agent : Course) (p : CircularProfile) (bounds : BoundingBox) (f : ℕ → Obstacle) (end o : ℕ) where
-  abbrev obstaclesFrom : ℕ → WaitHints → WaitHints
-  obstaclesFrom k = withObstacles agent p bounds k (listedTo f end k)
+  abbrev obstaclesFrom : ℕ → ℕ → Hints
+  obstaclesFrom k = nearObstacles agent p bounds k (listedTo f end k)
 
-  -- At the end there are the hints that were found.
-  pub obstacles-walked : (hints : WaitHints) → end ≤ o → obstaclesFrom o hints ≡ hints
-  unfolding withObstacles
-  obstacles-walked hints h = rw (listed-done f end o h)
+  -- At the end nothing is added.
+  pub obstacles-walked : (n : ℕ) (words : List ℕ) → end ≤ o → Added (obstaclesFrom o n) n words words (F.Of n)
+  unfolding nearObstacles
+  obstacles-walked n words h = rw (listed-done f end o h) (added-none n words)
 
   -- Past an obstacle that refuses nothing the walk is the rest, behind what was found.
-  pub obstacle-goes-on : (found hints : WaitHints) → o < end → found ≡ withObstacle agent p bounds o (f o) hints →
-      found .refused ≡ 0 → obstaclesFrom (o + 1) found ≡ obstaclesFrom o hints
-  unfolding withObstacles
-  obstacle-goes-on found hints h e none =
-      goes-on found _ (obstaclesFrom (o + 1)) e none ∙ rw (listed-next f end o h, add-one o)
+  pub obstacle-goes-on : (n m : ℕ) {lent mid left : List ℕ} {r : Filled} → o < end →
+      Added (nearObstacle agent p bounds o (f o) n) n lent mid (F.Of m) → Added (obstaclesFrom (o + 1) m) m mid left r →
+      Added (obstaclesFrom o n) n lent left r
+  unfolding nearObstacles
+  obstacle-goes-on n m h here rest =
+      rw (listed-next f end o h, ← add-one o) (added-then n m _ (obstaclesFrom (o + 1)) here rest)
 
   -- An obstacle that refuses ends it.
-  pub obstacle-ends : (found hints : WaitHints) → o < end → found ≡ withObstacle agent p bounds o (f o) hints →
-      (found .refused ≡ 0 → ⊥) → found ≡ obstaclesFrom o hints
-  unfolding withObstacles
-  obstacle-ends found hints h e refused = rw (listed-next f end o h) (ends found _ _ e refused)
+  pub obstacle-ends : (n number : ℕ) {lent left : List ℕ} → o < end →
+      Added (nearObstacle agent p bounds o (f o) n) n lent left (F.Refused number) →
+      Added (obstaclesFrom o n) n lent left (F.Refused number)
+  unfolding nearObstacles
+  obstacle-ends n number h here = rw (listed-next f end o h) (added-ended n number _ _ here)
 
 -- The walk over the legs of obstacle o of a table, with its last waypoint as `last_of` gives it, is the obstacle's
 -- (RULES 10.3, 10.4).
 pub obstacle-legs : (agent : Course) (p : CircularProfile) (bounds : BoundingBox) (lent : Lent) (boxes : ℕ → BoundingBox)
-    (o last : ℕ) (hints : WaitHints) →
+    (o last n : ℕ) →
     o < length (lent .starts) →
     last ≡ lastIn bounds (boxes o) (startIn (lent .starts) (length (lent .times)) (o + 1)) →
-    withLegs agent bounds (profileIn (lent .numbers) o .footprint) (gapsOf p (profileIn (lent .numbers) o)) o
-    (listedTo (legIn (lent .times) (lent .xs) (lent .ys)) last (getD (lent .starts) o 0)) hints ≡
-    withObstacle agent p bounds o (obstacleIn lent boxes o) hints
-unfolding withObstacle
-obstacle-legs agent p bounds lent boxes o last hints h = by (overlap bounds (boxes o))
+    nearLegs agent bounds (otherOf p o (profileIn (lent .numbers) o))
+    (listedTo (legIn (lent .times) (lent .xs) (lent .ys)) last (getD (lent .starts) o 0)) n ≡
+    nearObstacle agent p bounds o (obstacleIn lent boxes o) n
+unfolding nearObstacle
+obstacle-legs agent p bounds lent boxes o last n h = by (overlap bounds (boxes o))
   where
     leg : ℕ → Leg
     leg = legIn (lent .times) (lent .xs) (lent .ys)
@@ -100,15 +98,15 @@ obstacle-legs agent p bounds lent boxes o last hints h = by (overlap bounds (box
     from : ℕ
     from = getD (lent .starts) o 0
 
-    profile : CircularProfile
-    profile = profileIn (lent .numbers) o
+    other : Other
+    other = otherOf p o (profileIn (lent .numbers) o)
 
-    walk : List Leg → WaitHints
-    walk legs = withLegs agent bounds (profile .footprint) (gapsOf p profile) o legs hints
+    walk : List Leg → Hints
+    walk legs = nearLegs agent bounds other legs n
 
     by : (t : Bool) → last ≡ cond t (startIn (lent .starts) (length (lent .times)) (o + 1) - 1) 0 →
-        walk (listedTo leg last from) ≡ cond t (walk (legsOf (waypointsOf lent o))) hints
+        walk (listedTo leg last from) ≡ cond t (walk (legsOf (waypointsOf lent o))) (Of [])
     by true e =
         let end : ℕ = startIn (lent .starts) (length (lent .times)) (o + 1) in
         rw (e, legs-read lent o end h refl)
-    by false e = legs-walked agent bounds (profile .footprint) (gapsOf p profile) o leg last from hints (omega arith)
+    by false e = legs-done agent bounds other leg last from n (omega arith)

@@ -2,6 +2,7 @@
 -- Assumes nothing.
 use Prim.Native.Nat.{ℕ}
 use mathlib.Core.Bool.{cond, not, _&&_}
+use mathlib.Core.List.{[]}
 use lib.Signed.{ltZ}
 use lib.Ieee
 use lib.Ieee.{Float, binary64}
@@ -9,12 +10,11 @@ use Rattle.floats.specs.Constants.{nought}
 use Rattle.shapes.specs.Vector.{dotOf}
 use Rattle.courses.specs.declared.course.Course.{Course}
 use Rattle.courses.specs.declared.course.Run.{Run}
-use Rattle.waits.specs.Hints.{withWait, after}
-use Rattle.waits.specs.declared.wait_hints.WaitHints.{WaitHints}
+use Rattle.waits.specs.Hints.{Hints, Of, oneWait, foundThen}
 use Rattle.waiting.specs.Crossing.{crossingWait}
 use Rattle.waiting.specs.Standing.{standingWait}
 use Rattle.waiting.specs.Oncoming.{oncomingWait}
-use Rattle.following.specs.Follow.{following}
+use Rattle.following.specs.Follow.{followHints}
 use Rattle.chasing.specs.declared.chase.Gaps.{Gaps}
 use Rattle.finding.specs.declared.leg_hints.Part.{Part}
 use Rattle.finding.specs.declared.leg_hints.Part.the-variants.{Oncoming, Outpacing, Following, Standing}
@@ -30,17 +30,17 @@ partOf agent leg aligned =
     (cond (Ieee.le (agent .speed) aligned) Outpacing (cond (Ieee.lt slowest aligned) Following Standing))
     Oncoming
 
--- The hints of that part, behind those that were found before (RULES 10.14, 10.15).
-unfoldable pub withPart : Course → Run → Gaps → ℕ → WaitHints → WaitHints
-withPart agent leg gaps obstacle hints = by (partOf agent leg (dotOf (leg .velocity) (agent .direction)))
+-- The hints of that part, behind n others (RULES 10.14, 10.15).
+unfoldable pub partHints : Course → Run → Gaps → ℕ → ℕ → Hints
+partHints agent leg gaps obstacle n = by (partOf agent leg (dotOf (leg .velocity) (agent .direction)))
   where
-    by : Part → WaitHints
-    by Oncoming = withWait hints (oncomingWait agent leg (gaps .squared)) obstacle
-    by Outpacing = hints
-    by Following = following agent leg gaps (dotOf (leg .velocity) (agent .direction)) obstacle hints
-    by Standing = withWait hints (standingWait agent leg (gaps .squared)) obstacle
+    by : Part → Hints
+    by Oncoming = oneWait n (oncomingWait agent leg (gaps .squared)) obstacle
+    by Outpacing = Of []
+    by Following = followHints agent leg gaps (dotOf (leg .velocity) (agent .direction)) obstacle n
+    by Standing = oneWait n (standingWait agent leg (gaps .squared)) obstacle
 
 -- First the crossing hint, then the part, whatever came of it (RULES 10.8).
-unfoldable pub withLeg : Course → Run → Gaps → ℕ → WaitHints → WaitHints
-withLeg agent leg gaps obstacle hints =
-    after (withWait hints (crossingWait agent leg (gaps .squared)) obstacle) (withPart agent leg gaps obstacle)
+unfoldable pub legHints : Course → Run → Gaps → ℕ → ℕ → Hints
+legHints agent leg gaps obstacle n =
+    foundThen n (oneWait n (crossingWait agent leg (gaps .squared)) obstacle) (partHints agent leg gaps obstacle)

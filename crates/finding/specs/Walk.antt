@@ -3,8 +3,7 @@
 use Prim.Native.Nat.{ℕ, suc}
 use mathlib.Core.Bool.{cond}
 use mathlib.Core.List.{List, [], _∷_}
-use lib.Ieee
-use lib.Ieee.{Float, binary64}
+use lib.Ieee.{Float}
 use Rattle.floats.specs.Constants.{thousandth}
 use Rattle.refusals.specs.Names.{STRAYED}
 use Rattle.shapes.specs.Box.{boxOfLeg, inflated, overlap}
@@ -19,51 +18,52 @@ use Rattle.courses.specs.declared.course.Ran.the-variants as N
 use Rattle.courses.specs.declared.course.Heading.{Heading}
 use Rattle.courses.specs.declared.course.Heading.the-variants as H
 use Rattle.obstacles.specs.Obstacle.{Obstacle, legsOf}
-use Rattle.waits.specs.Hints.{noHints, refusedBy, after}
-use Rattle.waits.specs.declared.wait_hints.WaitHints.{WaitHints}
+use Rattle.waits.specs.Hints.{Hints, Of, Refused, foundThen}
 use Rattle.chasing.specs.declared.chase.Gaps.{Gaps}
-use Rattle.finding.specs.LegHints.{withLeg}
+use Rattle.finding.specs.LegHints.{legHints}
+use Rattle.finding.specs.declared.walk.Other.{Other}
 
 -- The distances that the agent keeps from an obstacle: D, D * D and F (RULES 10.6, 10.18).
 unfoldable pub gapsOf : CircularProfile → CircularProfile → Gaps
 gapsOf p q = record { critical = criticalDistance p q; squared = criticalDistanceSquared p q; follow = followDistance p q }
 
+-- What the search needs of an obstacle of that number and profile.
+unfoldable pub otherOf : CircularProfile → ℕ → CircularProfile → Other
+otherOf p number q = record { number = number; footprint = q .footprint; gaps = gapsOf p q }
+
 -- The box of a leg: its footprint's, then grown by 1e-3 in a step of its own (RULES 10.4).
 abbrev pub hintBox : Float → Leg → BoundingBox
 hintBox footprint leg = inflated (boxOfLeg footprint leg) thousandth
 
--- The hints for one leg, behind those that were found before; none where its box does not overlap the agent's (RULES 10.3, 10.7).
-unfoldable pub nearLeg : Course → BoundingBox → Float → Gaps → ℕ → Leg → WaitHints → WaitHints
-nearLeg agent bounds footprint gaps obstacle leg hints = cond (overlap bounds (hintBox footprint leg)) (by (runOf leg)) hints
+-- The hints for one leg, behind n others; none where its box does not overlap the agent's (RULES 10.3, 10.7).
+unfoldable pub nearLeg : Course → BoundingBox → Other → Leg → ℕ → Hints
+nearLeg agent bounds other leg n = cond (overlap bounds (hintBox (other .footprint) leg)) (by (runOf leg)) (Of [])
   where
-    by : Ran → WaitHints
-    by (N.Of run) = withLeg agent run gaps obstacle hints
-    by N.Strayed = refusedBy STRAYED
+    by : Ran → Hints
+    by (N.Of run) = legHints agent run (other .gaps) (other .number) n
+    by N.Strayed = Refused STRAYED
 
 -- Those for legs in order.
-unfoldable pub withLegs : Course → BoundingBox → Float → Gaps → ℕ → List Leg → WaitHints → WaitHints
-withLegs agent bounds footprint gaps obstacle [] hints = hints
-withLegs agent bounds footprint gaps obstacle (leg ∷ legs) hints =
-    after (nearLeg agent bounds footprint gaps obstacle leg hints) (withLegs agent bounds footprint gaps obstacle legs)
+unfoldable pub nearLegs : Course → BoundingBox → Other → List Leg → ℕ → Hints
+nearLegs agent bounds other [] n = Of []
+nearLegs agent bounds other (leg ∷ legs) n = foundThen n (nearLeg agent bounds other leg n) (nearLegs agent bounds other legs)
 
 -- Those for one obstacle, of that number; none where its whole box does not overlap the agent's (RULES 10.3, 10.4).
-unfoldable pub withObstacle : Course → CircularProfile → BoundingBox → ℕ → Obstacle → WaitHints → WaitHints
-withObstacle agent p bounds number o hints =
-    cond (overlap bounds (o .bounds))
-    (withLegs agent bounds (o .profile .footprint) (gapsOf p (o .profile)) number (legsOf (o .waypoints)) hints)
-    hints
+unfoldable pub nearObstacle : Course → CircularProfile → BoundingBox → ℕ → Obstacle → ℕ → Hints
+nearObstacle agent p bounds number o n =
+    cond (overlap bounds (o .bounds)) (nearLegs agent bounds (otherOf p number (o .profile)) (legsOf (o .waypoints)) n) (Of [])
 
 -- Those for obstacles in order, numbered from `number` on, those without a trajectory too (RULES 10.3, 10.5).
-unfoldable pub withObstacles : Course → CircularProfile → BoundingBox → ℕ → List Obstacle → WaitHints → WaitHints
-withObstacles agent p bounds number [] hints = hints
-withObstacles agent p bounds number (o ∷ os) hints =
-    after (withObstacle agent p bounds number o hints) (withObstacles agent p bounds (suc number) os)
+unfoldable pub nearObstacles : Course → CircularProfile → BoundingBox → ℕ → List Obstacle → ℕ → Hints
+nearObstacles agent p bounds number [] n = Of []
+nearObstacles agent p bounds number (o ∷ os) n =
+    foundThen n (nearObstacle agent p bounds number o n) (nearObstacles agent p bounds (suc number) os)
 
 -- All of them, for the agent's leg in its box; none where the agent hardly moves (RULES 10.1).
-unfoldable pub hintsOf : CircularProfile → Leg → BoundingBox → List Obstacle → WaitHints
+unfoldable pub hintsOf : CircularProfile → Leg → BoundingBox → List Obstacle → Hints
 hintsOf p leg bounds obstacles = by (courseOf leg)
   where
-    by : Heading → WaitHints
-    by (H.Along agent) = withObstacles agent p bounds 0 obstacles noHints
-    by H.Missing = noHints
-    by (H.Refused n) = refusedBy n
+    by : Heading → Hints
+    by (H.Along agent) = nearObstacles agent p bounds 0 obstacles 0
+    by H.Missing = Of []
+    by (H.Refused number) = Refused number

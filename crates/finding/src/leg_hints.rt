@@ -7,9 +7,11 @@ use following::follow;
 use waiting::crossing;
 use waiting::oncoming;
 use waiting::standing;
-use waits::wait_hints::WaitHints;
+use waits::hint_list;
+use waits::hint_list::Filled;
 ghost use mathlib.Core.Path.{_≡_};
-ghost use Rattle.finding.specs.LegHints.{partOf, withPart, withLeg};
+ghost use Rattle.waits.specs.Adding.{Added};
+ghost use Rattle.finding.specs.LegHints.{partOf, partHints, legHints};
 
 // What follows the crossing hint: the leg comes on, outpaces the agent, is followed, or stands.
 pub enum Part {
@@ -39,33 +41,48 @@ fn part_of(agent: Course, leg: Run, aligned: f64) -> Part
     Part::Standing
 }
 
-fn with_part(agent: Course, leg: Run, gaps: Gaps, obstacle: usize, hints: WaitHints) -> WaitHints
-    ensures { λ r. ⌜ r ≡ withPart agent leg gaps obstacle hints ⌝ }
+// The hints of that part, behind n others.
+fn with_part(
+    agent: Course,
+    leg: Run,
+    gaps: Gaps,
+    obstacle: usize,
+    hints: &mut [u64; 385],
+    n: usize,
+) -> Filled
+    ensures { λ r. ⌜ Added (partHints agent leg gaps obstacle n) n (now (hints .entry)) (now (hints .exit)) r ⌝ }
 {
     let aligned = leg.velocity.dot(agent.direction);
     let part = part_of(agent, leg, aligned);
     match part {
         Part::Oncoming => {
             let wait = oncoming::oncoming_wait(agent, leg, gaps.squared);
-            hints.with_wait(wait, obstacle)
+            hint_list::with_wait(hints, n, wait, obstacle)
         }
-        Part::Outpacing => hints,
-        Part::Following => follow::follow(agent, leg, gaps, aligned, obstacle, hints),
+        Part::Outpacing => Filled::Of(n),
+        Part::Following => follow::follow(agent, leg, gaps, aligned, obstacle, hints, n),
         Part::Standing => {
             let wait = standing::standing_wait(agent, leg, gaps.squared);
-            hints.with_wait(wait, obstacle)
+            hint_list::with_wait(hints, n, wait, obstacle)
         }
     }
 }
 
-// The hints for a leg, behind those that were found before.
-pub fn with_leg(agent: Course, leg: Run, gaps: Gaps, obstacle: usize, hints: WaitHints) -> WaitHints
-    ensures { λ r. ⌜ r ≡ withLeg agent leg gaps obstacle hints ⌝ }
+// The hints for a leg, behind n others.
+pub fn with_leg(
+    agent: Course,
+    leg: Run,
+    gaps: Gaps,
+    obstacle: usize,
+    hints: &mut [u64; 385],
+    n: usize,
+) -> Filled
+    ensures { λ r. ⌜ Added (legHints agent leg gaps obstacle n) n (now (hints .entry)) (now (hints .exit)) r ⌝ }
 {
     let wait = crossing::crossing_wait(agent, leg, gaps.squared);
-    let found = hints.with_wait(wait, obstacle);
-    if found.refused != 0 {
-        return found;
-    }
-    with_part(agent, leg, gaps, obstacle, found)
+    let filled = hint_list::with_wait(hints, n, wait, obstacle);
+    let Filled::Of(m) = filled else {
+        return filled;
+    };
+    with_part(agent, leg, gaps, obstacle, hints, m)
 }

@@ -10,13 +10,21 @@ use obstacles::table;
 use shapes::bounding_box::BoundingBox;
 use shapes::profile::CircularProfile;
 use shapes::waypoint::Leg;
-use waits::wait_hints::WaitHints;
+use waits::hint_list;
+use waits::hint_list::Filled;
 ghost use mathlib.Core.Path.{_≡_};
 ghost use Rattle.lists.specs.Listed.{listedTo};
 ghost use Rattle.obstacles.specs.Lent.{lentOf, obstaclesWith, legIn};
 ghost use Rattle.obstacles.specs.Boxes.{boxIn};
-ghost use Rattle.waits.specs.Hints.{noHints};
-ghost use Rattle.finding.specs.Walk.{gapsOf, nearLeg, withLegs, withObstacles, hintsOf};
+ghost use Rattle.waits.specs.Adding.{Added};
+ghost use Rattle.finding.specs.Walk.{gapsOf, otherOf, nearLeg, nearLegs, nearObstacles, hintsOf};
+
+// What the search needs of an obstacle: its number, its footprint, and the distances that the agent keeps from it.
+pub struct Other {
+    pub number: usize,
+    pub footprint: f64,
+    pub gaps: Gaps,
+}
 
 // The distances that the agent keeps from an obstacle.
 fn gaps_of(p: CircularProfile, other: CircularProfile) -> Gaps
@@ -29,56 +37,66 @@ fn gaps_of(p: CircularProfile, other: CircularProfile) -> Gaps
     }
 }
 
-// The hints for a leg; none where its box, a little larger than that of its footprint, does not overlap the agent's.
+fn other_of(p: CircularProfile, number: usize, profile: CircularProfile) -> Other
+    ensures { λ r. ⌜ r ≡ otherOf p number profile ⌝ }
+{
+    Other {
+        number,
+        footprint: profile.footprint,
+        gaps: gaps_of(p, profile),
+    }
+}
+
+// The hints for a leg, behind n others; none where its box, a little larger than that of its footprint, does not overlap the
+// agent's.
 fn near_leg(
     agent: Course,
     bounds: BoundingBox,
-    footprint: f64,
-    gaps: Gaps,
-    obstacle: usize,
+    other: Other,
     leg: Leg,
-    hints: WaitHints,
-) -> WaitHints
-    ensures { λ r. ⌜ r ≡ nearLeg agent bounds footprint gaps obstacle leg hints ⌝ }
+    hints: &mut [u64; 385],
+    n: usize,
+) -> Filled
+    ensures { λ r. ⌜ Added (nearLeg agent bounds other leg n) n (now (hints .entry)) (now (hints .exit)) r ⌝ }
 {
-    let around = BoundingBox::for_line(footprint, leg).inflated_by(1e-3);
+    let around = BoundingBox::for_line(other.footprint, leg).inflated_by(1e-3);
     if !bounds.overlaps(around) {
-        return hints;
+        return Filled::Of(n);
     }
     let ran = course::run_of(leg);
     let Ran::Of(run) = ran else {
-        return WaitHints::refused_by(refusals::STRAYED);
+        return hint_list::refuse(hints, refusals::STRAYED, n);
     };
-    leg_hints::with_leg(agent, run, gaps, obstacle, hints)
+    leg_hints::with_leg(agent, run, other.gaps, other.number, hints, n)
 }
 
-// The hints for the legs between the waypoints from `from` to `last`, in order.
+// The hints for the legs between the waypoints from `from` to `last`, in order, behind n others.
 fn with_legs(
     agent: Course,
     bounds: BoundingBox,
-    footprint: f64,
-    gaps: Gaps,
-    obstacle: usize,
+    other: Other,
     times: &[i64],
     xs: &[f64],
     ys: &[f64],
     from: usize,
     last: usize,
-    hints: WaitHints,
-) -> WaitHints
-    ensures { λ r. ⌜ r ≡ withLegs agent bounds footprint gaps obstacle (listedTo (legIn (now (times .entry)) (now (xs .entry)) (now (ys .entry))) last from) hints ⌝ }
+    hints: &mut [u64; 385],
+    n: usize,
+) -> Filled
+    ensures { λ r. ⌜ Added (nearLegs agent bounds other (listedTo (legIn (now (times .entry)) (now (xs .entry)) (now (ys .entry))) last from) n) n (now (hints .entry)) (now (hints .exit)) r ⌝ }
 {
-    let mut found = hints;
+    let mut m = n;
     let mut i = from;
     while i < last {
         let leg = table::leg_at(times, xs, ys, i, i + 1);
-        found = near_leg(agent, bounds, footprint, gaps, obstacle, leg, found);
-        if found.refused != 0 {
-            return found;
-        }
+        let filled = near_leg(agent, bounds, other, leg, hints, m);
+        let Filled::Of(count) = filled else {
+            return filled;
+        };
+        m = count;
         i += 1;
     }
-    found
+    Filled::Of(m)
 }
 
 // The hints for the legs of all obstacles of a table, in order.
@@ -92,40 +110,30 @@ fn with_obstacles(
     xs: &[f64],
     ys: &[f64],
     boxes: &[f64],
-) -> WaitHints
-    ensures { λ r. ⌜ r ≡ withObstacles agent p bounds 0 (obstaclesWith (lentOf (now (starts .entry)) (now (numbers .entry)) (now (times .entry)) (now (xs .entry)) (now (ys .entry))) (boxIn (now (boxes .entry)))) noHints ⌝ }
+    hints: &mut [u64; 385],
+) -> Filled
+    ensures { λ r. ⌜ Added (nearObstacles agent p bounds 0 (obstaclesWith (lentOf (now (starts .entry)) (now (numbers .entry)) (now (times .entry)) (now (xs .entry)) (now (ys .entry))) (boxIn (now (boxes .entry)))) 0) 0 (now (hints .entry)) (now (hints .exit)) r ⌝ }
 {
-    let mut found = WaitHints::none();
+    let mut n = 0;
     let mut o = 0;
     while o < starts.len() {
-        let other = table::profile_at(numbers, o);
-        let gaps = gaps_of(p, other);
+        let other = other_of(p, o, table::profile_at(numbers, o));
         let around = boxes::box_at(boxes, o);
         let from = starts[o];
         let end = table::start_of(starts, times.len(), o + 1);
         let last = boxes::last_of(bounds, around, end);
-        found = with_legs(
-            agent,
-            bounds,
-            other.footprint,
-            gaps,
-            o,
-            times,
-            xs,
-            ys,
-            from,
-            last,
-            found,
-        );
-        if found.refused != 0 {
-            return found;
-        }
+        let filled = with_legs(agent, bounds, other, times, xs, ys, from, last, hints, n);
+        let Filled::Of(count) = filled else {
+            return filled;
+        };
+        n = count;
         o += 1;
     }
-    found
+    Filled::Of(n)
 }
 
-// The hints for a leg of the agent's, whose box is `bounds`, in the order of finding; none where the agent hardly moves.
+// The hints for a leg of the agent's, whose box is `bounds`, in the order of finding, from the first place of a list on; none where
+// the agent hardly moves.
 pub fn compute_wait_hints(
     p: CircularProfile,
     agent: Leg,
@@ -136,15 +144,16 @@ pub fn compute_wait_hints(
     xs: &[f64],
     ys: &[f64],
     boxes: &[f64],
-) -> WaitHints
-    ensures { λ r. ⌜ r ≡ hintsOf p agent bounds (obstaclesWith (lentOf (now (starts .entry)) (now (numbers .entry)) (now (times .entry)) (now (xs .entry)) (now (ys .entry))) (boxIn (now (boxes .entry)))) ⌝ }
+    hints: &mut [u64; 385],
+) -> Filled
+    ensures { λ r. ⌜ Added (hintsOf p agent bounds (obstaclesWith (lentOf (now (starts .entry)) (now (numbers .entry)) (now (times .entry)) (now (xs .entry)) (now (ys .entry))) (boxIn (now (boxes .entry))))) 0 (now (hints .entry)) (now (hints .exit)) r ⌝ }
 {
     let heading = course::course_of(agent);
     match heading {
-        Heading::Refused(n) => WaitHints::refused_by(n),
-        Heading::Missing => WaitHints::none(),
+        Heading::Refused(number) => hint_list::refuse(hints, number, 0),
+        Heading::Missing => Filled::Of(0),
         Heading::Along(way) => {
-            with_obstacles(way, p, bounds, starts, numbers, times, xs, ys, boxes)
+            with_obstacles(way, p, bounds, starts, numbers, times, xs, ys, boxes, hints)
         }
     }
 }

@@ -11,24 +11,26 @@ use numbers::time::TimePoint;
 use sawtooth::rounds;
 use shapes::vector::Vector;
 use waits::hint::WaitHint;
-use waits::wait_hints::WaitHints;
+use waits::hint_list;
+use waits::hint_list::Filled;
 ghost use mathlib.Core.Path.{_≡_};
-ghost use Rattle.following.specs.Follow.{withStop, opened, followed, following};
+ghost use Rattle.waits.specs.Adding.{Added};
+ghost use Rattle.following.specs.Follow.{stopHint, opened, isFollowed, followHints};
 
-// A wait at a place until t seconds.
-fn with_stop(hints: WaitHints, place: Vector, t: f64, obstacle: usize) -> WaitHints
-    ensures { λ r. ⌜ r ≡ withStop hints place t obstacle ⌝ }
+// A wait at a place until t seconds, behind n hints.
+fn with_stop(place: Vector, t: f64, obstacle: usize, hints: &mut [u64; 385], n: usize) -> Filled
+    ensures { λ r. ⌜ Added (stopHint n place t obstacle) n (now (hints .entry)) (now (hints .exit)) r ⌝ }
 {
     let tp = TimePoint::from_secs_f64(t);
     let Instant::At(until) = tp else {
-        return WaitHints::refused_by(refusals::STRAYED);
+        return hint_list::refuse(hints, refusals::STRAYED, n);
     };
     let hint = WaitHint {
         place,
         until,
         obstacle,
     };
-    hints.with_hint(hint)
+    hint_list::with_hint(hints, n, hint)
 }
 
 // The first wait, if there is one, and the rounds.
@@ -37,62 +39,55 @@ fn open(
     leg: Run,
     chase: Chase,
     obstacle: usize,
-    hints: WaitHints,
     first: Opening,
-) -> WaitHints
-    ensures { λ r. ⌜ r ≡ opened agent leg chase obstacle hints first ⌝ }
+    hints: &mut [u64; 385],
+    n: usize,
+) -> Filled
+    ensures { λ r. ⌜ Added (opened agent leg chase obstacle first n) n (now (hints .entry)) (now (hints .exit)) r ⌝ }
 {
     match first {
-        Opening::Goes(s, t) => rounds::rounds(agent, leg, chase, obstacle, hints, s, t),
+        Opening::Goes(s, t) => rounds::rounds(agent, leg, chase, obstacle, s, t, hints, n),
         Opening::Waits(place, s, t) => {
-            let found = with_stop(hints, place, t, obstacle);
-            if found.refused != 0 {
-                return found;
-            }
-            rounds::rounds(agent, leg, chase, obstacle, found, s, t)
+            let filled = with_stop(place, t, obstacle, hints, n);
+            let Filled::Of(m) = filled else {
+                return filled;
+            };
+            rounds::rounds(agent, leg, chase, obstacle, s, t, hints, m)
         }
     }
 }
 
-// A leg that is seen `apart` from the agent's start at t seconds: none where it is within the critical distance, or behind.
-fn follow_from(
-    agent: Course,
-    leg: Run,
-    gaps: Gaps,
-    aligned: f64,
-    obstacle: usize,
-    hints: WaitHints,
-    apart: Vector,
-    t: f64,
-) -> WaitHints
-    ensures { λ r. ⌜ r ≡ followed agent leg gaps aligned obstacle hints apart t ⌝ }
+// Whether a leg that is first seen `apart` from the agent's start is followed: not within the critical distance, and not behind.
+fn is_followed(agent: Course, gaps: Gaps, apart: Vector) -> bool
+    ensures { λ r. ⌜ r ≡ isFollowed agent gaps apart ⌝ }
 {
     if !(apart.dot(apart) >= gaps.squared) {
-        return hints;
+        return false;
     }
-    let ahead = apart.dot(agent.direction);
-    if !(ahead >= 0.0) {
-        return hints;
-    }
-    let chase = chase::chase_of(agent, leg, gaps, aligned, ahead);
-    let first = chase::set_out(agent, gaps.follow, aligned, ahead, t);
-    open(agent, leg, chase, obstacle, hints, first)
+    apart.dot(agent.direction) >= 0.0
 }
 
-// The hints for a leg that goes along the agent's line at the speed `aligned`, behind those that were found before.
+// The hints for a leg that goes along the agent's line at the speed `aligned`, behind n others.
 pub fn follow(
     agent: Course,
     leg: Run,
     gaps: Gaps,
     aligned: f64,
     obstacle: usize,
-    hints: WaitHints,
-) -> WaitHints
-    ensures { λ r. ⌜ r ≡ following agent leg gaps aligned obstacle hints ⌝ }
+    hints: &mut [u64; 385],
+    n: usize,
+) -> Filled
+    ensures { λ r. ⌜ Added (followHints agent leg gaps aligned obstacle n) n (now (hints .entry)) (now (hints .exit)) r ⌝ }
 {
     let sight = chase::first_seen(agent, leg);
     let Sight::At(apart, t) = sight else {
-        return WaitHints::refused_by(refusals::STRAYED);
+        return hint_list::refuse(hints, refusals::STRAYED, n);
     };
-    follow_from(agent, leg, gaps, aligned, obstacle, hints, apart, t)
+    if !is_followed(agent, gaps, apart) {
+        return Filled::Of(n);
+    }
+    let ahead = apart.dot(agent.direction);
+    let chase = chase::chase_of(agent, leg, gaps, aligned, ahead);
+    let first = chase::set_out(agent, gaps.follow, aligned, ahead, t);
+    open(agent, leg, chase, obstacle, first, hints, n)
 }

@@ -10,11 +10,9 @@ use Rattle.limits.specs.Domain.{isLeg}
 use Rattle.shapes.specs.declared.waypoint.Leg.{Leg}
 use Rattle.waits.specs.declared.hint.WaitHint.{WaitHint}
 use Rattle.waits.proofs.Sound.{hasPlace}
-use Rattle.ranking.specs.Ranked.{isKnown}
-use Rattle.ranking.specs.Hints.{rankedRefused, withRanked}
-use Rattle.ranking.specs.declared.order.RankedHint.{RankedHint}
-use Rattle.ranking.specs.declared.ranked_hints.RankedHints.{RankedHints}
-use Rattle.ranking.proofs.OneByOne.{withAllRanked}
+use Rattle.waits.specs.declared.hint.RankedHint.{RankedHint}
+use Rattle.ranking.specs.Ranked.{isKnown, inserted, rankedOnto}
+use Rattle.ranking.specs.Hints as R
 use Rattle.hints.specs.Contour.{scaleOf, gradeOf, gradedOnto}
 use Rattle.hints.specs.declared.contour.Scale.{Scale}
 use Rattle.hints.specs.declared.contour.Scaling.the-variants.{By}
@@ -34,23 +32,23 @@ pub record Strays (scale : Scale) (found : List WaitHint) : Type 0 where
   pub among : List·Memᴰ hint found
   pub strays : gradeOf scale hint ≡ Strayed
 
--- All are measured, and each is put at its place, from `list` on.
-pub record Graded (scale : Scale) (list : RankedHints) (found : List WaitHint) : Type 0 where
+-- All are measured, and each is put at its place among those that are ranked already.
+pub record Graded (scale : Scale) (done : List RankedHint) (found : List WaitHint) : Type 0 where
   pub measured : List RankedHint
   pub in-turn : InTurn scale found measured
-  pub onto : gradedOnto scale list found ≡ withAllRanked list measured
+  pub onto : gradedOnto scale done found ≡ R.Of (rankedOnto done measured)
 
 -- The one, and refused 7, or the other.
-abbrev pub Grading : Scale → RankedHints → List WaitHint → Type 0
-Grading scale list found = (Strays scale found × (gradedOnto scale list found ≡ rankedRefused 7)) ⊎ Graded scale list found
+abbrev pub Grading : Scale → List RankedHint → List WaitHint → Type 0
+Grading scale done found = (Strays scale found × (gradedOnto scale done found ≡ R.Refused 7)) ⊎ Graded scale done found
 
 -- One that is measured, and then the others.
-one-more : (scale : Scale) (list : RankedHints) (h : WaitHint) (hs : List WaitHint) (r : RankedHint) →
-    gradeOf scale h ≡ Of r → Measured h r → Grading scale (withRanked list r) hs → Grading scale list (h ∷ hs)
-unfolding gradedOnto withAllRanked every
-one-more scale list h hs r e m (inl (s, refused)) =
+one-more : (scale : Scale) (done : List RankedHint) (h : WaitHint) (hs : List WaitHint) (r : RankedHint) →
+    gradeOf scale h ≡ Of r → Measured h r → Grading scale (inserted r done) hs → Grading scale done (h ∷ hs)
+unfolding gradedOnto rankedOnto every
+one-more scale done h hs r e m (inl (s, refused)) =
     inl (record { hint = s .hint; among = List·Memᴰ·tail (s .among); strays = s .strays }, rw e refused)
-one-more scale list h hs r e m (inr g) =
+one-more scale done h hs r e m (inr g) =
     let others = g .in-turn in
     inr (record {
       measured = r ∷ g .measured;
@@ -64,14 +62,14 @@ one-more scale list h hs r e m (inr g) =
 
 -- By the scale of a leg of the table, hints at places that they may have.
 module _ (leg : Leg) (scale : Scale) (legal : isLeg leg ≡ true) (line : scaleOf leg ≡ By scale) where
-  pub graded : (list : RankedHints) (found : List WaitHint) → every hasPlace found ≡ true → Grading scale list found
-  unfolding gradedOnto withAllRanked every
-  graded list [] e =
+  pub graded : (done : List RankedHint) (found : List WaitHint) → every hasPlace found ≡ true → Grading scale done found
+  unfolding gradedOnto rankedOnto every
+  graded done [] e =
       inr (record { measured = []; in-turn = record { as-graded = refl; as-found = refl; known = refl }; onto = refl })
-  graded list (h ∷ hs) e =
+  graded done (h ∷ hs) e =
       let here = both (hasPlace h) (every hasPlace hs) e in by (gradeOf scale h) refl (here .0) (λ next. graded next hs (here .1))
     where
       by : (grade : Grade) → gradeOf scale h ≡ grade → hasPlace h ≡ true →
-          ((next : RankedHints) → Grading scale next hs) → Grading scale list (h ∷ hs)
-      by (Of r) q placed rest = one-more scale list h hs r q (grade-measured leg h legal line placed q) (rest (withRanked list r))
+          ((next : List RankedHint) → Grading scale next hs) → Grading scale done (h ∷ hs)
+      by (Of r) q placed rest = one-more scale done h hs r q (grade-measured leg h legal line placed q) (rest (inserted r done))
       by Strayed q placed rest = inl (record { hint = h; among = List·Memᴰ·head refl; strays = q }, rw q)

@@ -35,7 +35,7 @@ use Rattle.waits.specs.Hint.{isWithinMillion, isPlaced}
 use Rattle.waits.specs.declared.hint.WaitHint.{WaitHint}
 use Rattle.ranking.specs.Ranked.{isKnown}
 use Rattle.lending.specs.Lent.{isFinite}
-use Rattle.ranking.specs.declared.order.RankedHint.{RankedHint}
+use Rattle.waits.specs.declared.hint.RankedHint.{RankedHint}
 use Rattle.hints.specs.Contour.{scaleOf, contourOf, gradeOf}
 use Rattle.hints.specs.declared.contour.Scale.{Scale}
 use Rattle.hints.specs.declared.contour.Scaling.{Scaling}

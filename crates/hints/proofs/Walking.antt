@@ -1,45 +1,96 @@
--- How the walk over the hints that were found goes: a turn at a time, up to the end or a refusal.
+-- The hints of a list, measured one by one and ranked in their place: those that were put so far stand in front, and the others are
+-- as they were found (RULES 11.5 to 11.7).
 -- Assumes nothing.
-use Prim.Native.Nat.{ℕ, _+_, _≤_, _<_}
-use mathlib.Core.Path.{_≡_}
-use mathlib.Core.List.{_∷_}
-use native.Mathlib.Omega.{arith}
+use Prim.Native.Nat.{ℕ, suc, _+_, _<_}
+use mathlib.Core.Path.{_≡_, refl, sym, ap, _∙_}
+use mathlib.Core.Logic.{inr}
+use mathlib.Core.List.{List, [], _∷_}
 use native.Mathlib.Numerals.{add-one}
-use lib.ListN.{length, drop, getD, length-take, drop-of-length-le}
-use lib.Seq.{drop-cons, getD-take}
-use Rattle.waits.specs.Hints.{held}
+use native.Mathlib.Omega.{arith}
+use lib.ListN.{length, drop, getD, length-map, drop-of-length-le, List·getD-map}
+use lib.Seq.{drop-cons}
+use Rattle.waits.specs.Words.{blankHint, blankRanked, countIn, hintIn, hintsIn, laid}
 use Rattle.waits.specs.declared.hint.WaitHint.{WaitHint}
-use Rattle.waits.specs.declared.wait_hints.WaitHints.{WaitHints}
-use Rattle.ranking.specs.Hints.{rankedRefused, withRanked}
-use Rattle.ranking.specs.declared.order.RankedHint.{RankedHint}
-use Rattle.ranking.specs.declared.ranked_hints.RankedHints.{RankedHints}
+use Rattle.waits.specs.declared.hint.RankedHint.{RankedHint}
+use Rattle.waits.specs.declared.hint_list.Filled.{Filled}
+use Rattle.waits.specs.declared.hint_list.Filled.the-variants as F
+use Rattle.waits.proofs.Reading.{counted, hint-there}
+use Rattle.waits.proofs.Words.{KeptRanked, AllRankedKept, laid-count, laid-apart, laid-held}
+use Rattle.ranking.specs.Ranked.{inserted}
+use Rattle.ranking.specs.Hints.{Of, Refused, Ranks, filledBy, rankedWords, rankedInto}
+use Rattle.ranking.proofs.OneByOne.{length-inserted, inserted-kept, ranked-into}
 use Rattle.hints.specs.Contour.{gradeOf, gradedOnto}
+use Rattle.hints.specs.Ranking.{foundIn, rankedOver, RanksOver}
 use Rattle.hints.specs.declared.contour.Scale.{Scale}
 use Rattle.hints.specs.declared.contour.Grade.the-variants as G
 
--- ---- The hints that were found, from hint i on, put among those that are ranked; d is what is read where there is none.
+-- The first i hints of `words` are measured, and stand ranked in `now`.
+pub record SoFar (scale : Scale) (words now : List ℕ) (i : ℕ) : Type 0 where
+  pub done : List RankedHint
+  pub size : length done ≡ i
+  pub kept : AllRankedKept done
+  pub in-front : now ≡ laid words 0 done
+  -- With those that are left, they come to all.
+  pub onward : gradedOnto scale done (drop i (foundIn words)) ≡ gradedOnto scale [] (foundIn words)
 
-module _ (scale : Scale) (list : RankedHints) (hints : WaitHints) (i : ℕ) (d : WaitHint) where
-  -- At the end all are ranked.
-  pub hints-ranked : length (held hints) ≤ i → gradedOnto scale list (drop i (held hints)) ≡ list
+pub none-yet : (scale : Scale) (words : List ℕ) → SoFar scale words words 0
+unfolding laid
+none-yet scale words = record { done = []; size = refl; kept = tt; in-front = refl; onward = refl }
+
+-- The hints that are left: the one at place i and the others.
+from : (words : List ℕ) (i : ℕ) → i < countIn words → drop i (foundIn words) ≡ hintIn words i .hint ∷ drop (i + 1) (foundIn words)
+unfolding foundIn
+from words i there =
+    let hint : RankedHint → WaitHint = λ r. r .hint in
+    let many : i < length (foundIn words) = omega (arith, length-map (hintsIn words) hint, counted words) in
+    let here : getD (foundIn words) i blankHint ≡ hintIn words i .hint =
+    List·getD-map hint (hintsIn words) i blankRanked ∙ ap hint (hint-there words i there) in
+    rw (add-one i) (drop-cons (foundIn words) i blankHint many ∙ ap (λ (h : WaitHint). h ∷ drop (suc i) (foundIn words)) here)
+
+module _ (scale : Scale) (words now : List ℕ) (i : ℕ) (s : SoFar scale words now i) where
+  count : countIn now ≡ countIn words
+  count = ap countIn (s .in-front) ∙ laid-count words 0 (s .done)
+
+  -- The hint at place i is read as it was found,
+  pub found-next : i < countIn words → getD (hintsIn now) i blankRanked ≡ hintIn words i
+  found-next there =
+      hint-there now i (omega (arith, count)) ∙ ap (λ (m : List ℕ). hintIn m i) (s .in-front) ∙
+      laid-apart words 0 (s .done) i (inr (omega (arith, s .size)))
+
+  -- and is put at its place (RULES 11.5, 11.6);
+  pub one-more : (r : RankedHint) → length words ≡ 385 → i < countIn words → gradeOf scale (hintIn words i .hint) ≡ G.Of r →
+      KeptRanked r → SoFar scale words (rankedInto now i r) (i + 1)
   unfolding gradedOnto
-  hints-ranked h = rw (drop-of-length-le (held hints) h)
+  one-more r long there e k =
+      record {
+        done = inserted r (s .done);
+        size = length-inserted r (s .done) ∙ ap (λ (n : ℕ). n + 1) (s .size);
+        kept = inserted-kept r (s .done) k (s .kept);
+        in-front =
+            ap (λ (m : List ℕ). rankedInto m i r) (s .in-front) ∙ ranked-into words (s .done) i r long (s .size) there (s .kept);
+        onward = rw (from words i there, e) at (s .onward);
+      }
 
-  from-hint : i < length (held hints) → drop i (held hints) ≡ getD (hints .all) i d ∷ drop (i + 1) (held hints)
-  unfolding held
-  from-hint h =
-      let few = length-take (hints .count) (hints .all) in
-      let within : i < hints .count = omega arith in
-      rw (add-one i, drop-cons (held hints) i d h, getD-take (hints .count) (hints .all) i d within)
-
-  -- A hint that is measured is put at its place, and the rest after it (RULES 11.5, 11.6).
-  pub hint-ranked : (r : RankedHint) → i < length (held hints) → gradeOf scale (getD (hints .all) i d) ≡ G.Of r →
-      gradedOnto scale (withRanked list r) (drop (i + 1) (held hints)) ≡ gradedOnto scale list (drop i (held hints))
+  -- where it strays, all are refused 7 (RULES 4.7, 11.3, 11.4).
+  pub one-strays : i < countIn words → gradeOf scale (hintIn words i .hint) ≡ G.Strayed →
+      gradedOnto scale [] (foundIn words) ≡ Refused 7
   unfolding gradedOnto
-  hint-ranked r h e = rw (from-hint h, e)
+  one-strays there e = sym (rw (from words i there, e) at (s .onward))
 
-  -- One whose measures leave the range of times is refused 7.
-  pub hint-strays : i < length (held hints) → gradeOf scale (getD (hints .all) i d) ≡ G.Strayed →
-      rankedRefused 7 ≡ gradedOnto scale list (drop i (held hints))
-  unfolding gradedOnto
-  hint-strays h e = rw (from-hint h, e)
+  -- In the end they are the answer.
+  pub all-ranked : length words ≡ 385 → countIn words ≡ i → RanksOver (gradedOnto scale [] (foundIn words)) words now (F.Of i)
+  unfolding gradedOnto filledBy rankedOver foundIn
+  all-ranked long end =
+      let none : drop i (foundIn words) ≡ [] =
+      drop-of-length-le (foundIn words) {i = i} (omega (arith, length-map (hintsIn words) (λ r. r .hint), counted words)) in
+      let answer : gradedOnto scale [] (foundIn words) ≡ Of (s .done) = sym (rw none at (s .onward)) in
+      let read = laid-held words (s .done) long (end ∙ sym (s .size)) (s .kept) in
+      rw answer (record { filled = ap F.Of (sym (s .size)); words = s .in-front; held = ap hintsIn (s .in-front) ∙ read })
+
+-- ---- A refusal.
+
+-- Zeros are left, whatever was there.
+pub refused-over : (number : ℕ) (lent left : List ℕ) (r : Filled) →
+    Ranks (Refused number) left r → RanksOver (Refused number) lent left r
+unfolding rankedWords rankedOver
+refused-over number lent left r ranks = record { filled = ranks .filled; words = ranks .words; held = ranks .held }

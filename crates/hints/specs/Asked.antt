@@ -10,14 +10,14 @@ use Rattle.shapes.specs.declared.profile.CircularProfile.{CircularProfile}
 use Rattle.shapes.specs.declared.waypoint.Leg.{Leg}
 use Rattle.obstacles.specs.Lent.{Lent, obstaclesOf}
 use Rattle.obstacles.specs.Examined.{agentExamined}
-use Rattle.ranking.specs.Hints.{rankedRefused}
-use Rattle.ranking.specs.declared.ranked_hints.RankedHints.{RankedHints}
+use Rattle.ranking.specs.Hints.{Ranked, Refused}
 use Rattle.hints.specs.Contour.{rankedHints}
 
 -- 4 for a duration under 10 ns, then the hints of the agent's leg in the box of its own footprint.
-unfoldable pub askedHints : CircularProfile → Leg → Lent → RankedHints
+unfoldable pub askedHints : CircularProfile → Leg → Lent → Ranked
 askedHints p agent lent = examined (agentExamined p agent lent)
   where
-    examined : Examined → RankedHints
-    examined X.Fine = cond (isBrief agent) (rankedRefused NO_LINE) (rankedHints p agent (boxOfLeg (p .footprint) agent) (obstaclesOf lent))
-    examined (X.Refused n) = rankedRefused n
+    examined : Examined → Ranked
+    examined X.Fine =
+        cond (isBrief agent) (Refused NO_LINE) (rankedHints p agent (boxOfLeg (p .footprint) agent) (obstaclesOf lent))
+    examined (X.Refused n) = Refused n

@@ -17,10 +17,11 @@ use Rattle.shapes.specs.declared.waypoint.Leg.{Leg}
 use Rattle.courses.specs.Norm.{normOf}
 use Rattle.obstacles.specs.Obstacle.{Obstacle}
 use Rattle.waits.specs.Hints as W
+use Rattle.waits.specs.Hints.{Hints}
 use Rattle.waits.specs.declared.hint.WaitHint.{WaitHint}
-use Rattle.waits.specs.declared.wait_hints.WaitHints.{WaitHints}
-use Rattle.ranking.specs.Hints.{noRanked, rankedRefused, withRanked}
-use Rattle.ranking.specs.declared.ranked_hints.RankedHints.{RankedHints}
+use Rattle.waits.specs.declared.hint.RankedHint.{RankedHint}
+use Rattle.ranking.specs.Ranked.{inserted}
+use Rattle.ranking.specs.Hints.{Ranked, Of, Refused}
 use Rattle.finding.specs.Walk.{hintsOf}
 use Rattle.hints.specs.declared.contour.Scale.{Scale}
 use Rattle.hints.specs.declared.contour.Scaling.{Scaling}
@@ -60,22 +61,24 @@ gradeOf scale h =
 
 -- ---- All of them.
 
--- Worked through in the order of finding, and each put at its place (RULES 11.5 to 11.7).
-unfoldable pub gradedOnto : Scale → RankedHints → List WaitHint → RankedHints
-gradedOnto scale list [] = list
-gradedOnto scale list (h ∷ hs) = by (gradeOf scale h) (λ found. gradedOnto scale found hs)
+-- Worked through in the order of finding, and each put at its place among those that are ranked already (RULES 11.5 to 11.7).
+unfoldable pub gradedOnto : Scale → List RankedHint → List WaitHint → Ranked
+gradedOnto scale done [] = Of done
+gradedOnto scale done (h ∷ hs) = by (gradeOf scale h) (λ found. gradedOnto scale found hs)
   where
-    by : Grade → (RankedHints → RankedHints) → RankedHints
-    by (G.Of r) go = go (withRanked list r)
-    by G.Strayed go = rankedRefused STRAYED
+    by : Grade → (List RankedHint → Ranked) → Ranked
+    by (G.Of r) go = go (inserted r done)
+    by G.Strayed go = Refused STRAYED
+
+-- Hints that were found, by the scale of the agent's leg; 4 where it has none (RULES 11.1).
+unfoldable pub measuredBy : Scaling → List WaitHint → Ranked
+measuredBy (L.By scale) hs = gradedOnto scale [] hs
+measuredBy (L.Refused number) hs = Refused number
 
 -- The ranked hints of a leg of the agent's in its box: all are found first, then measured (RULES 5.7, 11.1, 11.5).
-unfoldable pub rankedHints : CircularProfile → Leg → BoundingBox → List Obstacle → RankedHints
+unfoldable pub rankedHints : CircularProfile → Leg → BoundingBox → List Obstacle → Ranked
 rankedHints p leg bounds obstacles = by (hintsOf p leg bounds obstacles)
   where
-    measured : Scaling → List WaitHint → RankedHints
-    measured (L.By scale) hs = gradedOnto scale noRanked hs
-    measured (L.Refused n) hs = rankedRefused n
-
-    by : WaitHints → RankedHints
-    by found = cond (W.isGoing found) (measured (scaleOf leg) (W.held found)) (rankedRefused (found .refused))
+    by : Hints → Ranked
+    by (W.Of hs) = measuredBy (scaleOf leg) hs
+    by (W.Refused number) = Refused number

@@ -1,2 +1,3 @@
 pub mod Contour
+pub mod Ranking
 pub mod Asked

@@ -3,15 +3,15 @@ use crate::path_hints;
 use boxing::boxes;
 use examining::examine;
 use limits::domain::Examined;
-use ranking::ranked_hints::RankedHints;
 use shapes::bounding_box::BoundingBox;
 use shapes::profile::CircularProfile;
 use shapes::waypoint::Leg;
-ghost use mathlib.Core.Path.{_≡_};
+use waits::hint_list::Filled;
 ghost use Prim.Native.Nat.{_≤_};
 ghost use lib.ListN.{length};
 ghost use Rattle.shapes.specs.Box.{boxOfLeg};
 ghost use Rattle.obstacles.specs.Lent.{lentOf, obstaclesOf};
+ghost use Rattle.ranking.specs.Hints.{Ranks};
 ghost use Rattle.hints.specs.Contour.{rankedHints};
 ghost use Rattle.hints.specs.Asked.{askedHints};
 
@@ -24,9 +24,10 @@ fn among(
     times: &[i64],
     xs: &[f64],
     ys: &[f64],
-) -> RankedHints
+    hints: &mut [u64; 385],
+) -> Filled
     requires { ⌜ length (now starts) ≤ 32 ⌝ }
-    ensures { λ r. ⌜ r ≡ rankedHints p agent (boxOfLeg (p .footprint) agent) (obstaclesOf (lentOf (now (starts .entry)) (now (numbers .entry)) (now (times .entry)) (now (xs .entry)) (now (ys .entry)))) ⌝ }
+    ensures { λ r. ⌜ Ranks (rankedHints p agent (boxOfLeg (p .footprint) agent) (obstaclesOf (lentOf (now (starts .entry)) (now (numbers .entry)) (now (times .entry)) (now (xs .entry)) (now (ys .entry))))) (now (hints .exit)) r ⌝ }
 {
     let mut boxes = [0.0; 128];
     boxes::put_boxes(starts, numbers, times, xs, ys, &mut boxes);
@@ -41,10 +42,11 @@ fn among(
         xs,
         ys,
         &boxes,
+        hints,
     )
 }
 
-// The ranked hints for the agent's leg, in the box of its own footprint, among the obstacles of a lent table.
+// The ranked hints for the agent's leg in a lent list, in the box of its own footprint, among the obstacles of a lent table.
 pub fn wait_hints(
     p: CircularProfile,
     agent: Leg,
@@ -53,17 +55,18 @@ pub fn wait_hints(
     times: &[i64],
     xs: &[f64],
     ys: &[f64],
-) -> RankedHints
-    ensures { λ r. ⌜ r ≡ askedHints p agent (lentOf (now (starts .entry)) (now (numbers .entry)) (now (times .entry)) (now (xs .entry)) (now (ys .entry))) ⌝ }
+    hints: &mut [u64; 385],
+) -> Filled
+    ensures { λ r. ⌜ Ranks (askedHints p agent (lentOf (now (starts .entry)) (now (numbers .entry)) (now (times .entry)) (now (xs .entry)) (now (ys .entry)))) (now (hints .exit)) r ⌝ }
 {
     let input = examine::examine(p, agent, starts, numbers, times, xs, ys);
     match input {
-        Examined::Refused(n) => RankedHints::refused_by(n),
+        Examined::Refused(n) => path_hints::refuse(hints, n),
         Examined::Fine => {
             if agent.is_brief() {
-                return RankedHints::refused_by(refusals::NO_LINE);
+                return path_hints::refuse(hints, refusals::NO_LINE);
             }
-            among(p, agent, starts, numbers, times, xs, ys)
+            among(p, agent, starts, numbers, times, xs, ys, hints)
         }
     }
 }

@@ -4,37 +4,66 @@ use crate::contour::Grade;
 use crate::contour::Scale;
 use crate::contour::Scaling;
 use finding::walk;
-use ranking::ranked_hints::RankedHints;
+use ranking::ranked_hints;
 use shapes::bounding_box::BoundingBox;
 use shapes::profile::CircularProfile;
 use shapes::waypoint::Leg;
-use waits::wait_hints::WaitHints;
+use waits::hint_list;
+use waits::hint_list::Filled;
 ghost use mathlib.Core.Path.{_≡_};
+ghost use mathlib.Core.List.{List, []};
+ghost use lib.ListN.{length, replicate};
 ghost use Rattle.obstacles.specs.Lent.{lentOf, obstaclesWith};
 ghost use Rattle.obstacles.specs.Boxes.{boxIn};
-ghost use Rattle.waits.specs.Hints.{held};
-ghost use Rattle.ranking.specs.Hints.{noRanked};
-ghost use Rattle.hints.specs.Contour.{gradedOnto, rankedHints};
+ghost use Rattle.waits.specs.Hints.{Of};
+ghost use Rattle.waits.specs.Adding.{Added};
+ghost use Rattle.waits.specs.declared.hint.WaitHint.{WaitHint};
+ghost use Rattle.waits.specs.declared.hint_list.Filled.the-variants as F;
+ghost use Rattle.ranking.specs.Hints.{Ranks, Refused};
+ghost use Rattle.hints.specs.Contour.{scaleOf, gradedOnto, measuredBy, rankedHints};
+ghost use Rattle.hints.specs.Ranking.{RanksOver, foundIn};
 
-// Hints in the order of finding, measured one by one and ranked.
-fn rank(scale: Scale, hints: WaitHints) -> RankedHints
-    ensures { λ r. ⌜ r ≡ gradedOnto scale noRanked (held hints) ⌝ }
+// A refusal: its number alone, and no word of the list kept.
+pub(crate) fn refuse(hints: &mut [u64; 385], number: u64) -> Filled
+    ensures { λ r. ⌜ Ranks (Refused number) (now (hints .exit)) r ⌝ }
 {
-    let n = hints.len();
-    let mut list = RankedHints::none();
-    let mut i = 0;
-    while i < n {
-        let hint = hints.all[i];
-        let grade = contour::grade_of(scale, hint);
-        let Grade::Of(ranked) = grade else {
-            return RankedHints::refused_by(refusals::STRAYED);
-        };
-        list = list.with_ranked(ranked);
-        i += 1;
-    }
-    list
+    *hints = [0; 385];
+    Filled::Refused(number)
 }
 
+// The hints of a list, measured one by one in the order of finding and ranked in their place.
+fn rank(scale: Scale, hints: &mut [u64; 385]) -> Filled
+    requires { ⌜ length (now hints) ≡ 385 ⌝ }
+    ensures { λ r. ⌜ RanksOver (gradedOnto scale [] (foundIn (now (hints .entry)))) (now (hints .entry)) (now (hints .exit)) r ⌝ }
+{
+    let n = hint_list::count_of(hints);
+    let mut i = 0;
+    while i < n {
+        let found = hint_list::hint_at(hints, i);
+        let grade = contour::grade_of(scale, found.hint);
+        let Grade::Of(ranked) = grade else {
+            return refuse(hints, refusals::STRAYED);
+        };
+        ranked_hints::put_in_rank(hints, i, ranked);
+        i += 1;
+    }
+    Filled::Of(n)
+}
+
+// The n hints that were found, which stand in a list that was empty, with their count, ranked along the agent's leg.
+fn measure(agent: Leg, hints: &mut [u64; 385], n: usize) -> Filled
+    requires { ⌜ length (now hints) ≡ 385 ⌝ }
+    ensures { λ r. ⌜ ((hs : List WaitHint) → Added (Of hs) 0 (replicate 385 0) (now (hints .entry)) (F.Of n) → Ranks (measuredBy (scaleOf agent) hs) (now (hints .exit)) r) ⌝ }
+{
+    hints[0] = n as u64;
+    let scaling = contour::scale_of(agent);
+    match scaling {
+        Scaling::Refused(number) => refuse(hints, number),
+        Scaling::By(scale) => rank(scale, hints),
+    }
+}
+
+// The ranked hints in the lent list, whatever stood there.
 pub fn compute_safe_linear_path_wait_hints(
     p: CircularProfile,
     agent: Leg,
@@ -45,16 +74,25 @@ pub fn compute_safe_linear_path_wait_hints(
     xs: &[f64],
     ys: &[f64],
     boxes: &[f64],
-) -> RankedHints
-    ensures { λ r. ⌜ r ≡ rankedHints p agent bounds (obstaclesWith (lentOf (now (starts .entry)) (now (numbers .entry)) (now (times .entry)) (now (xs .entry)) (now (ys .entry))) (boxIn (now (boxes .entry)))) ⌝ }
+    hints: &mut [u64; 385],
+) -> Filled
+    ensures { λ r. ⌜ Ranks (rankedHints p agent bounds (obstaclesWith (lentOf (now (starts .entry)) (now (numbers .entry)) (now (times .entry)) (now (xs .entry)) (now (ys .entry))) (boxIn (now (boxes .entry))))) (now (hints .exit)) r ⌝ }
 {
-    let hints = walk::compute_wait_hints(p, agent, bounds, starts, numbers, times, xs, ys, boxes);
-    if hints.refused != 0 {
-        return RankedHints::refused_by(hints.refused);
-    }
-    let scaling = contour::scale_of(agent);
-    match scaling {
-        Scaling::Refused(n) => RankedHints::refused_by(n),
-        Scaling::By(scale) => rank(scale, hints),
-    }
+    *hints = [0; 385];
+    let filled = walk::compute_wait_hints(
+        p,
+        agent,
+        bounds,
+        starts,
+        numbers,
+        times,
+        xs,
+        ys,
+        boxes,
+        hints,
+    );
+    let Filled::Of(n) = filled else {
+        return filled;
+    };
+    measure(agent, hints, n)
 }

@@ -1,67 +1,46 @@
-// Hints that a call is lent: as words, the way the call for hints hands them out. First their count, then six words each: contour,
-// reach, x, y, until, obstacle (docs/RULES.md, 11.9 and 11.10).
+// Hints that a call is lent: as words, the way the call for hints hands them out, taken over into a list of the call's own
+// (docs/RULES.md, 11.9 and 11.10).
 use floats::comparison;
-use numbers::time::Duration;
-use numbers::time::TimePoint;
-use patterns::word;
-use ranking::order::RankedHint;
-use ranking::ranked_hints::RankedHints;
-use shapes::vector::Vector;
+use ranking::ranked_hints;
 use waits::hint;
-use waits::hint::WaitHint;
+use waits::hint::RankedHint;
+use waits::hint_list;
+use waits::hint_list::Filled;
 ghost use mathlib.Core.Path.{_≡_};
-ghost use Prim.Native.Nat.{_≤_, _+_, _*_};
-ghost use lib.ListN.{getD, length};
-ghost use Rattle.lending.specs.Lent.{hintIn, readHints, isFinite, isHint, areHints, lentHints};
+ghost use mathlib.Core.Bool.{true};
+ghost use mathlib.Core.List.{_++_};
+ghost use Prim.Native.Nat.{_+_, _-_, _*_};
+ghost use lib.ListN.{getD, take, replicate};
+ghost use Rattle.lists.specs.Listed.{every};
+ghost use Rattle.waits.specs.Words.{hintsIn};
+ghost use Rattle.lending.specs.Lent.{isFinite, isHint, areShaped, lentHints, Takes};
 
-// Word k of a list; what it does not reach is zero.
-fn word_at(words: &[u64], k: usize) -> u64
-    ensures { λ r. ⌜ r ≡ getD (now (words .entry)) k 0 ⌝ }
+// Whether the count is at most 64, and the words reach as far.
+fn are_shaped(words: &[u64]) -> bool
+    ensures { λ r. ⌜ r ≡ areShaped (now (words .entry)) ⌝ }
 {
-    if k < words.len() {
-        return words[k];
+    if words.len() == 0 {
+        return false;
     }
-    0
-}
-
-// The hint that stands in the six words from `at` on.
-fn hint_at(words: &[u64], at: usize) -> RankedHint
-    requires { ⌜ at + 6 ≤ length (now words) ⌝ }
-    ensures { λ r. ⌜ r ≡ hintIn (now (words .entry)) at ⌝ }
-{
-    RankedHint {
-        contour: Duration(word::signed_of(words[at])),
-        reach: word::double_of(words[at + 1]),
-        hint: WaitHint {
-            place: Vector {
-                x: word::double_of(words[at + 2]),
-                y: word::double_of(words[at + 3]),
-            },
-            until: TimePoint(word::signed_of(words[at + 4])),
-            obstacle: words[at + 5] as usize,
-        },
-    }
-}
-
-// The hints of a list of words, whatever their numbers: refused 2 where their count is past 64 or past the words.
-fn read(words: &[u64]) -> RankedHints
-    ensures { λ r. ⌜ r ≡ readHints (now (words .entry)) ⌝ }
-{
-    let n = word_at(words, 0);
+    let n = words[0];
     if 64 < n {
-        return RankedHints::refused_by(refusals::SHAPE);
+        return false;
     }
-    let count = n as usize;
-    if words.len() < 1 + 6 * count {
-        return RankedHints::refused_by(refusals::SHAPE);
+    1 + 6 * n as usize <= words.len()
+}
+
+// Copies lent hints, with zero behind them.
+fn copy(words: &[u64], hints: &mut [u64; 385])
+    requires { ⌜ areShaped (now words) ≡ true ⌝ }
+    ensures { λ _. ⌜ now (hints .exit) ≡ take (1 + 6 * getD (now (words .entry)) 0 0) (now (words .entry)) ++ replicate (384 - 6 * getD (now (words .entry)) 0 0) 0 ⌝ }
+{
+    *hints = [0; 385];
+    let end = 1 + 6 * words[0] as usize;
+    let mut k = 0;
+    while k < end {
+        hints[k] = words[k];
+        k += 1;
     }
-    let mut list = RankedHints::none();
-    let mut i = 0;
-    while i < count {
-        list = list.with_last(hint_at(words, 1 + 6 * i));
-        i += 1;
-    }
-    list
 }
 
 fn is_finite(x: f64) -> bool
@@ -91,16 +70,13 @@ fn is_hint(h: RankedHint, obstacles: usize) -> bool
 }
 
 // Whether all of them are.
-fn are_hints(list: RankedHints, obstacles: usize) -> bool
-    ensures { λ r. ⌜ r ≡ areHints obstacles list ⌝ }
+fn are_hints(hints: &[u64; 385], obstacles: usize) -> bool
+    ensures { λ r. ⌜ r ≡ every (isHint obstacles) (hintsIn (now (hints .entry))) ⌝ }
 {
-    let n = list.count;
-    if 64 < n {
-        return false;
-    }
+    let n = hint_list::count_of(hints);
     let mut i = 0;
     while i < n {
-        if !is_hint(list.all[i], obstacles) {
+        if !is_hint(hint_list::hint_at(hints, i), obstacles) {
             return false;
         }
         i += 1;
@@ -108,19 +84,22 @@ fn are_hints(list: RankedHints, obstacles: usize) -> bool
     true
 }
 
-// The hints of a list of words: refused 2 for their count, then 1 for their numbers and for hints that are not ranked.
-pub fn lent_hints(words: &[u64], obstacles: usize) -> RankedHints
-    ensures { λ r. ⌜ r ≡ lentHints obstacles (now (words .entry)) ⌝ }
+// Takes lent hints over: refused 2 for their count, then 1 for their numbers and for hints that are not ranked.
+pub fn lent_hints(words: &[u64], obstacles: usize, hints: &mut [u64; 385]) -> Filled
+    ensures { λ r. ⌜ Takes (lentHints obstacles (now (words .entry))) (now (words .entry)) (now (hints .exit)) r ⌝ }
 {
-    let list = read(words);
-    if list.refused != 0 {
-        return list;
+    if !are_shaped(words) {
+        *hints = [0; 385];
+        return Filled::Refused(refusals::SHAPE);
     }
-    if !are_hints(list, obstacles) {
-        return RankedHints::refused_by(refusals::NUMBER);
+    copy(words, hints);
+    if !are_hints(hints, obstacles) {
+        *hints = [0; 385];
+        return Filled::Refused(refusals::NUMBER);
     }
-    if !list.is_ranked() {
-        return RankedHints::refused_by(refusals::NUMBER);
+    if !ranked_hints::is_ranked(hints) {
+        *hints = [0; 385];
+        return Filled::Refused(refusals::NUMBER);
     }
-    list
+    Filled::Of(hint_list::count_of(hints))
 }

@@ -1,1 +1,2 @@
+mod Asked
 mod Given

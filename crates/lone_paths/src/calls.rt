@@ -12,16 +12,18 @@ use lists::rows;
 use lists::words;
 use numbers::time::TimePoint;
 use patterns::word;
-use ranking::ranked_hints::RankedHints;
 use shapes::profile::CircularProfile;
 use shapes::waypoint::Leg;
+use waits::hint_list::Filled;
 use ways::trip::Trip;
+ghost use mathlib.Core.Path.{_≡_};
 ghost use Prim.Native.Nat.{_≤_};
 ghost use lib.ListN.{length};
 ghost use Rattle.lists.specs.Outcome.{Handed};
 ghost use Rattle.obstacles.specs.Lent.{lentOf, obstaclesOf, obstaclesWith};
 ghost use Rattle.obstacles.specs.Boxes.{boxIn};
-ghost use Rattle.ranking.specs.Hints.{rankedHeld};
+ghost use Rattle.waits.specs.Words.{hintsIn};
+ghost use Rattle.lone_paths.specs.Taken.{withTaken};
 ghost use Rattle.arrival_paths.specs.Path.{pathFor};
 ghost use Rattle.arrival_paths.specs.Asked.{lonePath, pathOutcome, askedPath};
 
@@ -29,7 +31,7 @@ ghost use Rattle.arrival_paths.specs.Asked.{lonePath, pathOutcome, askedPath};
 fn give_path(
     trip: Trip,
     arrival: TimePoint,
-    hints: RankedHints,
+    hints: &[u64; 385],
     budget: u64,
     starts: &[usize],
     numbers: &[f64],
@@ -39,7 +41,7 @@ fn give_path(
     boxes: &[f64],
     out: &mut [u64],
 ) -> u64
-    ensures { λ r. ⌜ Handed (pathOutcome (pathFor trip (obstaclesWith (lentOf (now (starts .entry)) (now (numbers .entry)) (now (times .entry)) (now (xs .entry)) (now (ys .entry))) (boxIn (now (boxes .entry)))) (rankedHeld hints) budget arrival)) (now (out .entry)) (now (out .exit)) r ⌝ }
+    ensures { λ r. ⌜ Handed (pathOutcome (pathFor trip (obstaclesWith (lentOf (now (starts .entry)) (now (numbers .entry)) (now (times .entry)) (now (xs .entry)) (now (ys .entry))) (boxIn (now (boxes .entry)))) (hintsIn (now (hints .entry))) budget arrival)) (now (out .entry)) (now (out .exit)) r ⌝ }
 {
     let found = arrival_path::compute_safe_arrival_path(
         trip,
@@ -75,7 +77,7 @@ fn path_among(
     agent: Leg,
     arrival: TimePoint,
     budget: u64,
-    hints: RankedHints,
+    hints: &[u64; 385],
     starts: &[usize],
     numbers: &[f64],
     times: &[i64],
@@ -84,7 +86,7 @@ fn path_among(
     out: &mut [u64],
 ) -> u64
     requires { ⌜ length (now starts) ≤ 32 ⌝ }
-    ensures { λ r. ⌜ Handed (pathOutcome (lonePath p agent arrival budget (rankedHeld hints) (obstaclesOf (lentOf (now (starts .entry)) (now (numbers .entry)) (now (times .entry)) (now (xs .entry)) (now (ys .entry)))))) (now (out .entry)) (now (out .exit)) r ⌝ }
+    ensures { λ r. ⌜ Handed (pathOutcome (lonePath p agent arrival budget (hintsIn (now (hints .entry))) (obstaclesOf (lentOf (now (starts .entry)) (now (numbers .entry)) (now (times .entry)) (now (xs .entry)) (now (ys .entry)))))) (now (out .entry)) (now (out .exit)) r ⌝ }
 {
     let scaling = contour::scale_of(agent);
     match scaling {
@@ -114,6 +116,16 @@ fn path_among(
     }
 }
 
+// What is found with lent hints that are taken over or refused.
+fn with_taken(taken: Filled, found: Examined) -> Examined
+    ensures { λ r. ⌜ r ≡ withTaken taken found ⌝ }
+{
+    match taken {
+        Filled::Of(_count) => found,
+        Filled::Refused(n) => beside::with_lent(n, found),
+    }
+}
+
 // One path for an arrival time, by way of hints that are lent as words, among the obstacles of a lent table.
 pub fn arrival_path(
     p: CircularProfile,
@@ -130,10 +142,11 @@ pub fn arrival_path(
 ) -> u64
     ensures { λ r. ⌜ Handed (pathOutcome (askedPath p agent arrival budget (now (hints .entry)) (lentOf (now (starts .entry)) (now (numbers .entry)) (now (times .entry)) (now (xs .entry)) (now (ys .entry))))) (now (out .entry)) (now (out .exit)) r ⌝ }
 {
-    let list = lent::lent_hints(hints, starts.len());
+    let mut own = [0u64; 385];
+    let taken = lent::lent_hints(hints, starts.len(), &mut own);
     let others = beside::is_asked(budget, arrival);
     let found = examine::examine(p, agent, starts, numbers, times, xs, ys);
-    let input = beside::with_lent(list.refused, beside::with_numbers(others, found));
+    let input = with_taken(taken, beside::with_numbers(others, found));
     match input {
         Examined::Refused(n) => words::refuse(out, n),
         Examined::Fine => {
@@ -145,7 +158,7 @@ pub fn arrival_path(
                 agent,
                 arrival,
                 budget,
-                list,
+                &own,
                 starts,
                 numbers,
                 times,

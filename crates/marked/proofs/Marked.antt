@@ -29,21 +29,19 @@ use Rattle.waits.specs.Hints as W
 use Rattle.waiting.specs.Crossing.{beforeCrossing, besideLine, crossingWait}
 use Rattle.waiting.specs.Parts.{agentAfter}
 use Rattle.waiting.specs.Standing.{standingWait}
-use Rattle.ranking.specs.Hints as R
 use Rattle.ranking.specs.Ranked.{inserted}
 use Rattle.obstacles.specs.Obstacle.{legsOf, widened, boxOfTrajectory}
 use Rattle.obstacles.specs.Lent.{waypointsOf, boxOf, obstaclesWith, obstaclesOf}
 use Rattle.obstacles.specs.Examined.{tiles, isLaid, isTrajectory, legsInAll, isFew, isShaped, isAllowed, areAllowed}
 use Rattle.obstacles.specs.Examined.{agentExamined}
 use Rattle.hints.specs.Asked.{askedHints}
-use Rattle.hints.specs.Contour.{scaleOf, contourOf, gradeOf, gradedOnto, rankedHints}
-use Rattle.finding.specs.LegHints.{partOf, withPart, withLeg}
-use Rattle.finding.specs.Walk.{gapsOf, nearLeg, withLegs, withObstacle, withObstacles, hintsOf}
+use Rattle.hints.specs.Contour.{scaleOf, contourOf, gradeOf, gradedOnto, measuredBy, rankedHints}
+use Rattle.finding.specs.LegHints.{partOf, partHints, legHints}
+use Rattle.finding.specs.Walk.{gapsOf, otherOf, nearLeg, nearLegs, nearObstacle, nearObstacles, hintsOf}
 use Rattle.segments.specs.Segment.{isDuring, legVerdict, firstOf, obstacleVerdict, segmentOf}
 use Rattle.arrivals.specs.Legs.{meets, follows, relieved, sooner}
 use Rattle.arrivals.specs.Search.{legsIn, obstaclesIn, look, adjust, nextIn, next, soonest, sweep, turn, search, arrivals, flee}
 use Rattle.nearing.specs.Watched.{standingLeg, nearOf, watchedLegs, watchedAll, arrivalsAt, endsNear}
-use Rattle.chains.specs.Handed.{chainOf, linksIn}
 use Rattle.chains.specs.Recursive.{recursiveSearch}
 use Rattle.choosing.specs.Roots.{lateness, goalContour, countBelow, countLevel, firstRoot}
 use Rattle.ways.specs.Tests.{toEnd, toGoal, waitsAt, fromStart, straight}
@@ -69,11 +67,11 @@ unfolding askedProximity askedConflict cartsExamined legsExamined askedHints ask
     incorporating inflated boxOfLeg overlap placeOf vectorSum vectorDifference scaled divided dotOf proximityOf longRange meetingFrom
     motionAt holds isInside byRoots passage conflictOf closingAt enteredAt segmentOf obstacleVerdict firstOf legVerdict
     isDuring runOf courseOf acrossQuadratic outlasting pastEnd spellOf nearLine normOf directionOf stationaryProximity
-    W.refusedBy W.noHints W.held W.isGoing W.withHint W.withWait W.after isPlaced crossingWait besideLine beforeCrossing
-    agentAfter standingWait hintsOf withObstacles withObstacle withLegs nearLeg gapsOf withLeg withPart partOf rankedHints
-    gradedOnto gradeOf contourOf scaleOf R.rankedRefused R.noRanked R.rankedHeld R.withRanked inserted arrivalsAt watchedAll
+    W.oneHint W.oneWait W.foundThen isPlaced crossingWait besideLine beforeCrossing
+    agentAfter standingWait hintsOf nearObstacles nearObstacle nearLegs nearLeg otherOf gapsOf legHints partHints partOf rankedHints measuredBy
+    gradedOnto gradeOf contourOf scaleOf inserted arrivalsAt watchedAll
     watchedLegs standingLeg nearOf arrivals legsIn obstaclesIn search turn sweep adjust look meets follows soonest next nextIn
-    chainFrom recursiveSearch toParent startsAt stopIn chainOf linksIn straight fromStart waitsAt toGoal toEnd reachedFrom
+    chainFrom recursiveSearch toParent startsAt stopIn straight fromStart waitsAt toGoal toEnd reachedFrom
     hintWaypoint wayOf bothWays firstRoot countLevel countBelow goalContour lateness planOf shortPlan longPlan hintsPlanned timesPlanned
     pathsPlanned pathsFor pathFor byHints taken alongHints hintsAt built ended stopped holdAfter planNumber planRoom
     actionRoomOf hasRoom wordsIn allActions actionWords rootOf leastUnits rootPattern wholeRoot laterOf earlierOf spanBetween

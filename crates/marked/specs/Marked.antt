@@ -17,7 +17,7 @@ use Rattle.proximity.specs.declared.detect.Proximity.the-variants as P
 use Rattle.conflicts.specs.Asked.{askedConflict}
 use Rattle.conflicts.specs.declared.conflict.Verdict.the-variants as J
 use Rattle.obstacles.specs.Lent.{Lent, lentOf}
-use Rattle.ranking.specs.Hints.{rankedHeld}
+use Rattle.ranking.specs.Hints as R
 use Rattle.hints.specs.Asked.{askedHints}
 use Rattle.arrivals.specs.Search as A
 use Rattle.search.specs.Asked.{askedArrivals}
@@ -164,12 +164,12 @@ pub record Marked : Type 0 where
   pub p9-near : askedProximity one (stay 6_000) (way minusThree one three one 6_000) ≡ P.Passes (at 3_000) (at 3_000)
   pub p9 : askedConflict cart (stay 6_000) cart (way minusThree one three one 6_000) one ≡ J.Clear
   -- Crossing has one hint (RULES 16.10),
-  pub p10-hints : rankedHeld (askedHints cart ahead crossing) ≡
-      record {
+  pub p10-hints : askedHints cart ahead crossing ≡
+      R.Of (record {
         contour = lasting 2_000;
         reach = four;
         hint = record { place = record { x = four; y = zero }; until = at 6_000; obstacle = 0 };
-      } ∷ []
+      } ∷ [])
   -- and one path (RULES 16.11),
   pub p10 : planWith 4_096 ≡ crossingPlan
   -- handed over in these words, four for a line (RULES 15.1 to 15.4),

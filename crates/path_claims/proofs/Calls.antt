@@ -2,7 +2,6 @@
 -- Assumes nothing.
 use Prim.Native.Nat.{_≤_, min}
 use mathlib.Core.Path.{_≡_, refl, ap}
-use mathlib.Core.Logic.{⊎-elim}
 use mathlib.Core.Bool.{Bool, true, false, _&&_, cond, true≢false}
 use native.Mathlib.Omega.{arith}
 use lib.ListN.{length, length-take}
@@ -18,13 +17,8 @@ use Rattle.shapes.specs.declared.waypoint.Leg.{Leg}
 use Rattle.limits.proofs.Limits.{leg-end}
 use Rattle.obstacles.specs.Examined.{isShaped, areAllowed, agentExamined}
 use Rattle.obstacles.specs.Lent.{Lent, obstaclesOf}
-use Rattle.ranking.specs.Hints.{rankedRefused, noRanked, rankedHeld}
-use Rattle.ranking.specs.declared.ranked_hints.RankedHints.{RankedHints}
-use Rattle.ranking.proofs.OneByOne.{withAllRanked, found-ranked}
-use Rattle.finding.specs.Walk.{hintsOf}
 use Rattle.hints.specs.Asked.{askedHints}
 use Rattle.hints.specs.Contour.{rankedHints}
-use Rattle.hints.proofs.Answered.{Refusal, Answer, asked-answered}
 use Rattle.search.specs.Asked.{askedArrivals}
 use Rattle.nearing.specs.Watched.{arrivalsAt}
 
@@ -35,22 +29,6 @@ module _ (p : CircularProfile) (agent : Leg) (lent : Lent) (fine : agentExamined
       askedHints p agent lent ≡ rankedHints p agent (boxOfLeg (p .footprint) agent) (obstaclesOf lent)
   unfolding askedHints
   hints-alone lasts = rw (fine, lasts)
-
-  pub few-hints : isBrief agent ≡ false → length (rankedHeld (askedHints p agent lent)) ≤ 64
-  unfolding rankedHeld rankedRefused
-  few-hints lasts = ⊎-elim refused answered (asked-answered p agent lent fine lasts)
-    where
-      refused : Refusal agent (hintsOf p agent (boxOfLeg (p .footprint) agent) (obstaclesOf lent)) (askedHints p agent lent) →
-          length (rankedHeld (askedHints p agent lent)) ≤ 64
-      refused r = rw (r .alone) (omega arith)
-
-      answered : Answer agent (hintsOf p agent (boxOfLeg (p .footprint) agent) (obstaclesOf lent)) (askedHints p agent lent) →
-          length (rankedHeld (askedHints p agent lent)) ≤ 64
-      answered a =
-          let h = found-ranked (a .measured) (a .few) in
-          let all : RankedHints = withAllRanked noRanked (a .measured) in
-          let size : length (rankedHeld all) ≡ min (all .count) (length (all .all)) = length-take (all .count) (all .all) in
-          omega (arith, h .long, size, ap length (a .as-ranked), ap length (h .these))
 
   -- ---- The arrival times.
 

@@ -1,13 +1,10 @@
 -- A chain that is found, from its first hint on (RULES 13.10, 13.16, 13.23).
 -- Assumes nothing.
-use Prim.Native.Nat.{ℕ, suc, min}
+use Prim.Native.Nat.{ℕ}
 use mathlib.Core.Path.{_≡_, refl, sym, subst}
 use mathlib.Core.Bool.{Bool}
 use mathlib.Core.List.{List, [], _∷_, _++_, append-assoc, append-nil}
 use mathlib.Core.Option.{Option, none, some}
-use native.Mathlib.Omega.{arith}
-use lib.ListN.{length, take}
-use Rattle.chains.specs.Handed.{pad, chainOf, linksIn}
 use Rattle.chains.specs.Safe.{SafeChain, SafeWay, one, more}
 use Rattle.chains.specs.declared.trial.Trial.{Trial}
 use Rattle.chains.specs.declared.trial.Trial.the-variants.{Passed}
@@ -33,14 +30,3 @@ module _ (toParent : ℕ → Option ℕ → Trial) (fromStart : ℕ → Trial) (
 
   pub begun : {count : ℕ} {l : List ℕ} → SafeWay toParent fromStart reaches count l → Begun l
   begun {count} {l} way = subst Begun (append-nil l) (begun-with (way .chain) [] (way .goal))
-
--- The first hint is read back, however long the chain is.
-pub record Read (first : ℕ) (l : List ℕ) : Type 0 where
-  pub rest : List ℕ
-  pub same : l ≡ first ∷ rest
-
-pub first-back : (first : ℕ) (rest : List ℕ) → Read first (linksIn (chainOf (first ∷ rest)))
-unfolding linksIn chainOf
-first-back first rest =
-    let some : min 64 (suc (length rest)) ≡ suc (min 63 (length rest)) = omega arith in
-    record { rest = take (min 63 (length rest)) (pad 63 rest); same = rw some }

@@ -1,19 +1,17 @@
 -- All that the agent drives in a path by way of hints was tested and is safe (RULES 13.3, 13.10, 13.16, 13.23).
 -- Assumes nothing.
-use Prim.Native.Nat.{ℕ, _≤_}
+use Prim.Native.Nat.{ℕ}
 use mathlib.Core.Path.{_≡_, sym, ap}
 use mathlib.Core.List.{List, [], _∷_}
 use mathlib.Core.Option.{Option}
-use lib.ListN.{length, getD}
+use lib.ListN.{getD}
 use Rattle.numbers.specs.declared.time.Duration.{Duration}
 use Rattle.shapes.specs.declared.waypoint.Waypoint.{Waypoint}
 use Rattle.obstacles.specs.Obstacle.{Obstacle}
 use Rattle.waits.specs.declared.hint.WaitHint.{WaitHint}
-use Rattle.ranking.specs.Hints.{blankRanked}
-use Rattle.ranking.specs.declared.order.RankedHint.{RankedHint}
+use Rattle.waits.specs.Words.{blankRanked}
+use Rattle.waits.specs.declared.hint.RankedHint.{RankedHint}
 use Rattle.chains.specs.Answer.{Way}
-use Rattle.chains.specs.Handed.{chainOf, linksIn}
-use Rattle.chains.proofs.Links.{way-back}
 use Rattle.ways.specs.Travel.{hintWaypoint}
 use Rattle.ways.specs.declared.trip.Trip.{Trip}
 use Rattle.paths.specs.Trying.{stopIn, toParent, startsAt, reaches, chainFrom}
@@ -54,18 +52,16 @@ module _ (trip : Trip) (os : List Obstacle) (hints : List RankedHint) where
       safe-stop s (end-passed trip os (stopIn hints i) (hintAt j) (leads .0) (s .reached))
       (safe-behind j l (s .sum) (leads .1) (s .behind))
 
-  -- From the start along a chain that was found, among at most 64 hints.
+  -- From the start along a chain that was found.
   pub driven : (budget : ℕ) (first : Option ℕ) {links : List ℕ} {pops : ℕ} {actions : List SafeAction} {hold : Duration} →
-      length hints ≤ 64 → chainFrom trip os hints budget first ≡ Way links pops →
-      built trip (trip .leg .start) unheld (hintsAt hints (linksIn (chainOf links))) ≡ Of actions hold →
+      chainFrom trip os hints budget first ≡ Way links pops →
+      built trip (trip .leg .start) unheld (hintsAt hints links) ≡ Of actions hold →
       SafeFrom trip os (trip .leg .start) actions
   unfolding chainFrom hintsAt startsAt stopIn
-  driven budget first {links} {pops} few found made =
+  driven budget first {links} {pops} found made =
       let b = begun (toParent trip os hints) (startsAt trip os hints) (reaches hints)
       (safe-way trip os hints budget first found) in
-      let whole = way-back (toParent trip os hints) (startsAt trip os hints) (reaches hints) budget (length hints) first links pops few
-      found in
       let h : WaitHint = hintAt (b .first) in
-      let s = stop trip (trip .leg .start) unheld h (hintsAt hints (b .rest)) (rw (whole, b .links) at made) in
+      let s = stop trip (trip .leg .start) unheld h (hintsAt hints (b .rest)) (rw (b .links) at made) in
       safe-stop s (start-passed trip os h (b .started) (s .reached) .safe)
       (safe-behind (b .first) (b .rest) (s .sum) (b .leads) (s .behind))

@@ -13,10 +13,9 @@ use Rattle.numbers.specs.declared.time.TimePoint.{TimePoint}
 use Rattle.shapes.specs.declared.waypoint.Waypoint.{Waypoint}
 use Rattle.obstacles.specs.Obstacle.{Obstacle}
 use Rattle.waits.specs.declared.hint.WaitHint.{WaitHint}
-use Rattle.ranking.specs.Hints.{blankRanked}
-use Rattle.ranking.specs.declared.order.RankedHint.{RankedHint}
+use Rattle.waits.specs.Words.{blankRanked}
+use Rattle.waits.specs.declared.hint.RankedHint.{RankedHint}
 use Rattle.chains.specs.Answer.{Way}
-use Rattle.chains.specs.Handed.{chainOf, linksIn}
 use Rattle.ways.specs.declared.trip.Trip.{Trip}
 use Rattle.paths.specs.Trying.{stopIn, toParent, startsAt, reaches, chainFrom}
 use Rattle.actions.specs.Built.{Of, built, hintsAt, unheld}
@@ -24,7 +23,7 @@ use Rattle.actions.specs.declared.action.SafeAction.{SafeAction}
 use Rattle.actions.specs.declared.action.SafeAction.the-variants.{Move, Wait}
 use Rattle.arrival_paths.specs.Path.{Path, pathFor}
 use Rattle.path_claims.specs.Origin.{Origin, direct, along}
-use Rattle.path_claims.proofs.Chain.{begun, first-back}
+use Rattle.path_claims.proofs.Chain.{begun}
 use Rattle.path_claims.proofs.Origin.{origin}
 use Rattle.path_claims.proofs.Parts.{stop, start-passed}
 use Rattle.path_claims.proofs.Searched.{safe-way}
@@ -33,16 +32,15 @@ module _ (trip : Trip) (os : List Obstacle) (hints : List RankedHint) (budget : 
     {w : Waypoint} {obstacle : ℕ} {end : TimePoint} {rest : List SafeAction} where
   along-chain : {hold : Duration} {pops : ℕ} (first : Option ℕ) (links : List ℕ) →
       chainFrom trip os hints budget first ≡ Way links pops →
-      built trip (trip .leg .start) unheld (hintsAt hints (linksIn (chainOf links))) ≡
+      built trip (trip .leg .start) unheld (hintsAt hints links) ≡
       Of (Move w ∷ (Wait obstacle end ∷ rest)) hold →
       w .time .0 ≤ℤ end .0
   unfolding hintsAt startsAt stopIn
   along-chain {hold} first links found made =
       let b = begun (toParent trip os hints) (startsAt trip os hints) (reaches hints)
       (safe-way trip os hints budget first found) in
-      let r = first-back (b .first) (b .rest) in
       let h : WaitHint = getD hints (b .first) blankRanked .hint in
-      let s = stop trip (trip .leg .start) unheld h (hintsAt hints (r .rest)) (rw (b .links, r .same) at made) in
+      let s = stop trip (trip .leg .start) unheld h (hintsAt hints (b .rest)) (rw (b .links) at made) in
       let reached : s .arrival ≡ w = cc (s .same) in
       let until : h .until ≡ end = cc (s .same) in
       let in-time : s .arrival .time .0 ≤ℤ h .until .0 =

@@ -9,7 +9,7 @@ use lib.ListN.{length}
 use lib.Signed.{_<ℤ_}
 use Rattle.numbers.specs.declared.time.TimePoint.{TimePoint}
 use Rattle.obstacles.specs.Obstacle.{Obstacle}
-use Rattle.ranking.specs.declared.order.RankedHint.{RankedHint}
+use Rattle.waits.specs.declared.hint.RankedHint.{RankedHint}
 use Rattle.arrivals.specs.Sweeps.{All, Rising}
 use Rattle.ways.specs.declared.trip.Trip.{Trip}
 use Rattle.arrival_paths.specs.Path as P

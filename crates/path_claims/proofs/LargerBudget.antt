@@ -21,9 +21,9 @@ use Rattle.shapes.specs.declared.waypoint.Leg.{Leg}
 use Rattle.obstacles.specs.Examined.{agentExamined}
 use Rattle.obstacles.specs.Lent.{Lent, obstaclesOf}
 use Rattle.obstacles.specs.Obstacle.{Obstacle}
-use Rattle.ranking.specs.Hints.{rankedHeld}
-use Rattle.ranking.specs.declared.order.RankedHint.{RankedHint}
-use Rattle.ranking.specs.declared.ranked_hints.RankedHints.{RankedHints}
+use Rattle.ranking.specs.Hints as R
+use Rattle.ranking.specs.Hints.{Ranked}
+use Rattle.waits.specs.declared.hint.RankedHint.{RankedHint}
 use Rattle.hints.specs.Contour.{scaleOf, rankedHints}
 use Rattle.hints.specs.declared.contour.Scale.{Scale}
 use Rattle.hints.specs.declared.contour.Scaling.{Scaling}
@@ -32,7 +32,7 @@ use Rattle.arrivals.specs.Search as A
 use Rattle.nearing.specs.Watched.{arrivalsAt}
 use Rattle.chains.specs.Answer as N
 use Rattle.chains.specs.Answer.{Chained, isSpent}
-use Rattle.chains.specs.Handed.{firstIndex, answered}
+use Rattle.chains.specs.Handed.{firstIndex}
 use Rattle.chains.specs.declared.trial.Trial.{Trial}
 use Rattle.chains.specs.declared.trial.Trial.the-variants as T
 use Rattle.choosing.specs.Roots.{goalContour, firstRoot}
@@ -46,7 +46,7 @@ use Rattle.arrival_paths.specs.Path as P
 use Rattle.arrival_paths.specs.Path.{Sought, taken, contoured, byHints, pathFor}
 use Rattle.plans.specs.Asked.{askedPlan}
 use Rattle.plans.specs.Plan as Q
-use Rattle.plans.specs.Plan.{Path, Paths, Plan, first, sought, withScale, timed, planned, tripOf, pathsFor}
+use Rattle.plans.specs.Plan.{Path, Paths, Plan, first, sought, withScale, hinted, timed, planned, tripOf, pathsFor}
 use Rattle.plans.specs.Plan.{pathsPlanned, timesPlanned, hintsPlanned, longPlan, planOf}
 use Rattle.path_claims.proofs.Searched.{same-answer}
 
@@ -54,20 +54,20 @@ module _ (small large : ℕ) (le : small ≤ large) where
   module _ (trip : Trip) (os : List Obstacle) (hints : List RankedHint) where
     -- ---- A path.
 
-    spent-told : (a : Chained) → isSpent a ≡ true → taken trip hints (answered a) ≡ P.Refused 11
+    spent-told : (a : Chained) → isSpent a ≡ true → taken trip hints a ≡ P.Refused 11
     unfolding taken
     spent-told (N.Way links pops) e = absurd (true≢false (sym e))
     spent-told (N.NoWay pops) e = absurd (true≢false (sym e))
     spent-told (N.Refused n pops) e = ap P.Refused (eqb-true n 11 e)
 
-    same-taken : (first : Option ℕ) → taken trip hints (answered (chainFrom trip os hints small first)) ≢ P.Refused 11 →
-        taken trip hints (answered (chainFrom trip os hints large first)) ≡
-        taken trip hints (answered (chainFrom trip os hints small first))
+    same-taken : (first : Option ℕ) → taken trip hints (chainFrom trip os hints small first) ≢ P.Refused 11 →
+        taken trip hints (chainFrom trip os hints large first) ≡
+        taken trip hints (chainFrom trip os hints small first)
     same-taken first kept = by (isSpent (chainFrom trip os hints small first)) refl
       where
         by : (spent : Bool) → isSpent (chainFrom trip os hints small first) ≡ spent →
-            taken trip hints (answered (chainFrom trip os hints large first)) ≡
-            taken trip hints (answered (chainFrom trip os hints small first))
+            taken trip hints (chainFrom trip os hints large first) ≡
+            taken trip hints (chainFrom trip os hints small first)
         by true spent = absurd (kept (spent-told (chainFrom trip os hints small first) spent))
         by false left = rw (same-answer trip os hints small large le first left)
 
@@ -77,7 +77,7 @@ module _ (small large : ℕ) (le : small ≤ large) where
     same-by-hints t = by (eqb (length hints) 0) (goalContour trip t)
       where
         found : ℕ → Duration → Sought
-        found budget goal = taken trip hints (answered (chainFrom trip os hints budget (firstIndex (firstRoot goal hints))))
+        found budget goal = taken trip hints (chainFrom trip os hints budget (firstIndex (firstRoot goal hints)))
 
         by : (none : Bool) (c : Contour) → cond none (P.Missing 0) (contoured c (found small)) ≢ P.Refused 11 →
             cond none (P.Missing 0) (contoured c (found large)) ≡ cond none (P.Missing 0) (contoured c (found small))
@@ -138,20 +138,17 @@ module _ (small large : ℕ) (le : small ≤ large) where
         in-times scale hints (A.Refused n) kept = refl
         in-times scale hints A.Unfinished kept = refl
 
-        in-hints : (scale : Scale) (list : RankedHints) (none : Bool) →
-            let few = timed (arrivalsAt p (agent .end) os) (found small scale (rankedHeld list)) in
-            let many = timed (arrivalsAt p (agent .end) os) (found large scale (rankedHeld list)) in
-            cond none few (Q.Refused (list .refused)) ≢ Q.Refused 11 →
-            cond none many (Q.Refused (list .refused)) ≡ cond none few (Q.Refused (list .refused))
-        in-hints scale list true kept = in-times scale (rankedHeld list) (arrivalsAt p (agent .end) os) kept
-        in-hints scale list false kept = refl
+        in-hints : (scale : Scale) (own : Ranked) →
+            let times : ℕ → List RankedHint → Plan = λ budget hints. timed (arrivalsAt p (agent .end) os) (found budget scale hints) in
+            hinted own (times small) ≢ Q.Refused 11 → hinted own (times large) ≡ hinted own (times small)
+        in-hints scale (R.Of hints) kept = in-times scale hints (arrivalsAt p (agent .end) os) kept
+        in-hints scale (R.Refused n) kept = refl
 
         by : (s : Scaling) → withScale s (λ scale. hintsPlanned (tripOf p agent scale) os os small) ≢ Q.Refused 11 →
             withScale s (λ scale. hintsPlanned (tripOf p agent scale) os os large) ≡
             withScale s (λ scale. hintsPlanned (tripOf p agent scale) os os small)
         by (L.By scale) kept =
-            let own : RankedHints = rankedHints p agent (boxOfLeg (p .footprint) agent) os in
-            in-hints scale own (eqb (own .refused) 0) kept
+            in-hints scale (rankedHints p agent (boxOfLeg (p .footprint) agent) os) kept
         by (L.Refused n) kept = refl
 
     same-planned : (os : List Obstacle) → planOf p agent small os ≢ Q.Refused 11 → planOf p agent large os ≡ planOf p agent small os

@@ -1,4 +1,5 @@
 pub mod Searched
+mod Rising
 pub mod Root
 pub mod Origin
 mod Chain

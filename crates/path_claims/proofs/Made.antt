@@ -16,8 +16,9 @@ use Rattle.shapes.specs.declared.waypoint.Leg.{Leg}
 use Rattle.obstacles.specs.Examined.{agentExamined}
 use Rattle.obstacles.specs.Lent.{Lent, obstaclesOf}
 use Rattle.obstacles.specs.Obstacle.{Obstacle}
-use Rattle.ranking.specs.Hints.{rankedHeld}
-use Rattle.ranking.specs.declared.ranked_hints.RankedHints.{RankedHints}
+use Rattle.waits.specs.declared.hint.RankedHint.{RankedHint}
+use Rattle.ranking.specs.Hints as R
+use Rattle.ranking.specs.Hints.{Ranked}
 use Rattle.hints.specs.Contour.{scaleOf, rankedHints}
 use Rattle.hints.specs.declared.contour.Scale.{Scale}
 use Rattle.hints.specs.declared.contour.Scaling.{Scaling}
@@ -26,23 +27,24 @@ use Rattle.arrivals.specs.Search as A
 use Rattle.nearing.specs.Watched.{arrivalsAt}
 use Rattle.asking.specs.Beside.{isBudget, withNumbers}
 use Rattle.plans.specs.Asked.{askedPlan}
-use Rattle.plans.specs.Plan.{Path, Paths, Of, Planned, Refused, withScale, timed, planned, tripOf, pathsFor}
+use Rattle.plans.specs.Plan.{Path, Paths, Of, Planned, Refused, withScale, hinted, timed, planned, tripOf, pathsFor}
 use Rattle.plans.specs.Plan.{pathsPlanned, timesPlanned, hintsPlanned, longPlan, planOf}
 
 -- The hints of the agent's leg.
-abbrev pub ownHints : CircularProfile → Leg → List Obstacle → RankedHints
+abbrev pub ownHints : CircularProfile → Leg → List Obstacle → Ranked
 ownHints p agent os = rankedHints p agent (boxOfLeg (p .footprint) agent) os
 
 pub record Made (p : CircularProfile) (agent : Leg) (budget : ℕ) (os : List Obstacle) (hints times sweeps : ℕ) (ps : List Path) :
     Type 0 where
   pub scale : Scale
   pub line : scaleOf agent ≡ L.By scale
-  pub unrefused : ownHints p agent os .refused ≡ 0
-  pub hint-count : length (rankedHeld (ownHints p agent os)) ≡ hints
+  pub found : List RankedHint
+  pub unrefused : ownHints p agent os ≡ R.Of found
+  pub hint-count : length found ≡ hints
   pub list : List TimePoint
   pub arrivals : arrivalsAt p (agent .end) os ≡ A.Answered list sweeps
   pub time-count : length list ≡ times
-  pub paths : pathsFor (tripOf p agent scale) os (rankedHeld (ownHints p agent os)) budget list ≡ Of ps
+  pub paths : pathsFor (tripOf p agent scale) os found budget list ≡ Of ps
 
 module _ {hints times sweeps : ℕ} {ps : List Path} where
   not-planned : {n : ℕ} → Refused n ≡ Planned hints times sweeps ps → ⊥
@@ -53,22 +55,18 @@ module _ {hints times sweeps : ℕ} {ps : List Path} where
     unfolding longPlan hintsPlanned timesPlanned pathsPlanned
     made = by (scaleOf agent) refl
       where
-        own : RankedHints
-        own = ownHints p agent os
-
-        found : Scale → List TimePoint → Paths
-        found scale list = pathsFor (tripOf p agent scale) os (rankedHeld own) budget list
-
-        by-paths : (scale : Scale) → scaleOf agent ≡ L.By scale → own .refused ≡ 0 → (list : List TimePoint) (n : ℕ) →
-            arrivalsAt p (agent .end) os ≡ A.Answered list n → (paths : Paths) → found scale list ≡ paths →
-            planned (length (rankedHeld own)) (length list) n paths ≡ Planned hints times sweeps ps →
-            Made p agent budget os hints times sweeps ps
-        by-paths scale line unrefused list n arrivals (Of l) paths e =
+        by-paths : (scale : Scale) → scaleOf agent ≡ L.By scale →
+            (own : List RankedHint) → ownHints p agent os ≡ R.Of own → (list : List TimePoint) (n : ℕ) →
+            arrivalsAt p (agent .end) os ≡ A.Answered list n →
+            (paths : Paths) → pathsFor (tripOf p agent scale) os own budget list ≡ paths →
+            planned (length own) (length list) n paths ≡ Planned hints times sweeps ps → Made p agent budget os hints times sweeps ps
+        by-paths scale line own unrefused list n arrivals (Of l) paths e =
             let sweep : n ≡ sweeps = cc e in
             let all : l ≡ ps = cc e in
             record {
               scale = scale;
               line = line;
+              found = own;
               unrefused = unrefused;
               hint-count = cc e;
               list = list;
@@ -76,28 +74,27 @@ module _ {hints times sweeps : ℕ} {ps : List Path} where
               time-count = cc e;
               paths = paths ∙ ap Of all;
             }
-        by-paths scale line unrefused list n arrivals (Refused m) paths e = absurd (not-planned e)
+        by-paths scale line own unrefused list n arrivals (Refused m) paths e = absurd (not-planned e)
 
-        by-times : (scale : Scale) → scaleOf agent ≡ L.By scale → own .refused ≡ 0 → (a : A.Searched) →
-            arrivalsAt p (agent .end) os ≡ a →
-            timed a (λ list n. planned (length (rankedHeld own)) (length list) n (found scale list)) ≡ Planned hints times sweeps ps →
+        by-times : (scale : Scale) → scaleOf agent ≡ L.By scale → (own : List RankedHint) → ownHints p agent os ≡ R.Of own →
+            (a : A.Searched) → arrivalsAt p (agent .end) os ≡ a →
+            timed a (λ list n. pathsPlanned (tripOf p agent scale) os own budget list n) ≡ Planned hints times sweeps ps →
             Made p agent budget os hints times sweeps ps
-        by-times scale line unrefused (A.Answered list n) arrivals e =
-            by-paths scale line unrefused list n arrivals (found scale list) refl e
-        by-times scale line unrefused (A.Refused n) arrivals e = absurd (not-planned e)
-        by-times scale line unrefused A.Unfinished arrivals e = absurd (not-planned e)
+        by-times scale line own unrefused (A.Answered list n) arrivals e =
+            by-paths scale line own unrefused list n arrivals (pathsFor (tripOf p agent scale) os own budget list) refl e
+        by-times scale line own unrefused (A.Refused n) arrivals e = absurd (not-planned e)
+        by-times scale line own unrefused A.Unfinished arrivals e = absurd (not-planned e)
 
-        by-hints : (scale : Scale) → scaleOf agent ≡ L.By scale → (none : Bool) → eqb (own .refused) 0 ≡ none →
-            cond none (timesPlanned (tripOf p agent scale) os os (rankedHeld own) budget) (Refused (own .refused)) ≡
-            Planned hints times sweeps ps → Made p agent budget os hints times sweeps ps
-        by-hints scale line true none e =
-            by-times scale line (eqb-true (own .refused) 0 none) (arrivalsAt p (agent .end) os) refl e
-        by-hints scale line false none e = absurd (not-planned e)
+        by-hints : (scale : Scale) → scaleOf agent ≡ L.By scale → (own : Ranked) → ownHints p agent os ≡ own →
+            hinted own (λ found. timesPlanned (tripOf p agent scale) os os found budget) ≡ Planned hints times sweeps ps →
+            Made p agent budget os hints times sweeps ps
+        by-hints scale line (R.Of own) unrefused e = by-times scale line own unrefused (arrivalsAt p (agent .end) os) refl e
+        by-hints scale line (R.Refused n) refused e = absurd (not-planned e)
 
         by : (s : Scaling) → scaleOf agent ≡ s →
             withScale s (λ scale. hintsPlanned (tripOf p agent scale) os os budget) ≡ Planned hints times sweeps ps →
             Made p agent budget os hints times sweeps ps
-        by (L.By scale) line e = by-hints scale line (eqb (own .refused) 0) refl e
+        by (L.By scale) line e = by-hints scale line (ownHints p agent os) refl e
         by (L.Refused n) line e = absurd (not-planned e)
 
   -- The input was fine, and the plan is that for the obstacles of the table (RULES 5.1).

@@ -10,10 +10,10 @@ use lib.ListN.{length}
 use Rattle.numbers.specs.declared.time.Duration.{Duration}
 use Rattle.numbers.specs.declared.time.TimePoint.{TimePoint}
 use Rattle.obstacles.specs.Obstacle.{Obstacle}
-use Rattle.ranking.specs.declared.order.RankedHint.{RankedHint}
+use Rattle.waits.specs.declared.hint.RankedHint.{RankedHint}
 use Rattle.chains.specs.Answer as A
 use Rattle.chains.specs.Answer.{Chained}
-use Rattle.chains.specs.Handed.{firstIndex, chainOf, linksIn, answered}
+use Rattle.chains.specs.Handed.{firstIndex}
 use Rattle.chains.specs.declared.trial.Trial.{Trial}
 use Rattle.chains.specs.declared.trial.Trial.the-variants as T
 use Rattle.choosing.specs.Roots.{goalContour, firstRoot}
@@ -44,10 +44,10 @@ module _ {actions : List SafeAction} {pops : ℕ} {hold : Duration} where
 
   module _ (trip : Trip) (os : List Obstacle) (hints : List RankedHint) (budget : ℕ) (arrival : TimePoint) where
     by-answer : (first : Option ℕ) → straight trip os arrival ≡ T.Failed → (a : Chained) → chainFrom trip os hints budget first ≡ a →
-        taken trip hints (answered a) ≡ Path actions pops hold → Origin trip os hints budget arrival actions pops hold
+        taken trip hints a ≡ Path actions pops hold → Origin trip os hints budget arrival actions pops hold
     unfolding taken alongHints
     by-answer first failed (A.Way links n) found e =
-        let m = made n (built trip (trip .leg .start) unheld (hintsAt hints (linksIn (chainOf links)))) e in
+        let m = made n (built trip (trip .leg .start) unheld (hintsAt hints links)) e in
         along first links failed (rw (m .1) at found) (m .0)
     by-answer first failed (A.NoWay n) found e = absurd (not-missing e)
     by-answer first failed (A.Refused m n) found e = absurd (not-refused e)
@@ -61,7 +61,7 @@ module _ {actions : List SafeAction} {pops : ℕ} {hold : Duration} where
         chain goal = chainFrom trip os hints budget (firstIndex (firstRoot goal hints))
 
         by : (none : Bool) (contour : Contour) →
-            cond none (Missing 0) (contoured contour (λ goal. taken trip hints (answered (chain goal)))) ≡ Path actions pops hold →
+            cond none (Missing 0) (contoured contour (λ goal. taken trip hints (chain goal))) ≡ Path actions pops hold →
             Origin trip os hints budget arrival actions pops hold
         by true contour e = absurd (not-missing e)
         by false (C.Of goal) e = by-answer (firstIndex (firstRoot goal hints)) failed (chain goal) refl e

@@ -12,31 +12,32 @@ use Rattle.shapes.specs.declared.profile.CircularProfile.{CircularProfile}
 use Rattle.shapes.specs.declared.waypoint.Leg.{Leg}
 use Rattle.obstacles.specs.Examined.{agentExamined}
 use Rattle.obstacles.specs.Lent.{Lent, obstaclesOf}
-use Rattle.ranking.specs.Hints.{rankedRefused, rankedHeld}
+use Rattle.ranking.specs.Hints.{rankedIn}
 use Rattle.ranking.specs.Ranked.{sorted}
 use Rattle.finding.specs.Walk.{hintsOf}
 use Rattle.hints.specs.Asked.{askedHints}
 use Rattle.hints.proofs.Answered.{Refusal, asked-answered}
 use Rattle.chains.specs.declared.trial.First.the-variants.{Missing, Root}
 use Rattle.choosing.specs.Roots.{firstRoot}
-use Rattle.choosing.proofs.Chosen.{Chosen, AllBelow, sorted-rises, chosen, all-below}
+use Rattle.choosing.proofs.Chosen.{Chosen, AllBelow, chosen, all-below}
+use Rattle.path_claims.proofs.Rising.{sorted-rises}
 
 module _ (p : CircularProfile) (agent : Leg) (lent : Lent) (fine : agentExamined p agent lent ≡ X.Fine)
     (lasts : isBrief agent ≡ false) where
-  hints-sorted : sorted (rankedHeld (askedHints p agent lent)) ≡ true
-  unfolding rankedHeld rankedRefused sorted
+  hints-sorted : sorted (rankedIn (askedHints p agent lent)) ≡ true
+  unfolding sorted
   hints-sorted = ⊎-elim refused (λ a. a .ranking .in-order) (asked-answered p agent lent fine lasts)
     where
       refused : Refusal agent (hintsOf p agent (boxOfLeg (p .footprint) agent) (obstaclesOf lent)) (askedHints p agent lent) →
-          sorted (rankedHeld (askedHints p agent lent)) ≡ true
+          sorted (rankedIn (askedHints p agent lent)) ≡ true
       refused r = rw (r .alone)
 
   -- The root has the lowest contour that is not below the goal's, and is the last with that contour;
-  pub root-chosen : (goal : Duration) (i : ℕ) → firstRoot goal (rankedHeld (askedHints p agent lent)) ≡ Root i →
-      Chosen goal (rankedHeld (askedHints p agent lent)) i
-  root-chosen goal i = chosen goal (rankedHeld (askedHints p agent lent)) i (sorted-rises (rankedHeld (askedHints p agent lent)) hints-sorted)
+  pub root-chosen : (goal : Duration) (i : ℕ) → firstRoot goal (rankedIn (askedHints p agent lent)) ≡ Root i →
+      Chosen goal (rankedIn (askedHints p agent lent)) i
+  root-chosen goal i = chosen goal (rankedIn (askedHints p agent lent)) i (sorted-rises (rankedIn (askedHints p agent lent)) hints-sorted)
 
   -- there is none where every contour is below the goal's.
-  pub root-missing : (goal : Duration) → firstRoot goal (rankedHeld (askedHints p agent lent)) ≡ Missing →
-      AllBelow goal (rankedHeld (askedHints p agent lent))
-  root-missing goal = all-below goal (rankedHeld (askedHints p agent lent))
+  pub root-missing : (goal : Duration) → firstRoot goal (rankedIn (askedHints p agent lent)) ≡ Missing →
+      AllBelow goal (rankedIn (askedHints p agent lent))
+  root-missing goal = all-below goal (rankedIn (askedHints p agent lent))

@@ -14,8 +14,7 @@ use Rattle.shapes.specs.declared.waypoint.Leg.{Leg}
 use Rattle.obstacles.specs.Examined.{agentExamined}
 use Rattle.obstacles.specs.Lent.{Lent, obstaclesOf}
 use Rattle.obstacles.specs.Obstacle.{Obstacle}
-use Rattle.ranking.specs.Hints.{rankedHeld}
-use Rattle.ranking.specs.declared.order.RankedHint.{RankedHint}
+use Rattle.waits.specs.declared.hint.RankedHint.{RankedHint}
 use Rattle.hints.specs.Asked.{askedHints}
 use Rattle.arrivals.specs.Search as A
 use Rattle.arrivals.specs.Sweeps.{Rising}
@@ -28,7 +27,7 @@ use Rattle.plans.specs.Plan.{planOf}
 use Rattle.path_claims.specs.Origin as O
 use Rattle.path_claims.specs.Origin.{Origin}
 use Rattle.path_claims.specs.Whole.{InTurn, Sound, direct, waiting, Long, Whole}
-use Rattle.path_claims.proofs.Calls.{hints-alone, few-hints, arrivals-alone}
+use Rattle.path_claims.proofs.Calls.{hints-alone, arrivals-alone}
 use Rattle.path_claims.proofs.Driven.{driven}
 use Rattle.path_claims.proofs.FirstArrival.{first-arrival}
 use Rattle.path_claims.proofs.InTurn.{Given, in-turn, few, all-arrivals, rise, all-given}
@@ -46,13 +45,13 @@ module _ (trip : Trip) (os : List Obstacle) (hints : List RankedHint) (budget : 
       by (O.direct passed actions pops hold) = omega arith
       by (O.along first links blocked found made) = rw found at (few-pops trip os hints budget first)
 
-  pub path-sound : length hints ≤ 64 → Given trip os hints budget q → Sound trip os q
-  path-sound short e = by (origin trip os hints budget (q .arrival) e)
+  pub path-sound : Given trip os hints budget q → Sound trip os q
+  path-sound e = by (origin trip os hints budget (q .arrival) e)
     where
       by : Origin trip os hints budget (q .arrival) (q .actions) (q .pops) (q .hold) → Sound trip os q
       by (O.direct passed actions pops hold) = direct passed actions pops hold
       by (O.along first links blocked found made) =
-          waiting (driven trip os hints budget first short found made)
+          waiting (driven trip os hints budget first found made)
           (λ w obstacle end rest same. first-arrival trip os hints budget (q .arrival) (rw same at e))
 
 -- ---- A whole plan.
@@ -69,16 +68,15 @@ module _ (p : CircularProfile) (agent : Leg) (budget : ℕ) (lent : Lent) where
   long-claims {ps = ps} lasts fine m =
       let os = obstaclesOf lent in
       let trip : Trip = tripOf p agent (m .scale) in
-      let hints : List RankedHint = rankedHeld (askedHints p agent lent) in
-      let same = hints-alone p agent lent fine lasts in
-      let short : length hints ≤ 64 = few-hints p agent lent fine lasts in
-      let turn : InTurn trip os hints budget (m .list) ps = in-turn trip os hints budget (m .list) ps (rw same (m .paths)) in
+      let hints : List RankedHint = m .found in
+      let turn : InTurn trip os hints budget (m .list) ps = in-turn trip os hints budget (m .list) ps (m .paths) in
       let given = all-given trip os hints budget turn in
       record {
         scale = m .scale;
         line = m .line;
-        hinted = rw same (m .unrefused);
-        hint-count = rw same (m .hint-count);
+        found = hints;
+        hinted = hints-alone p agent lent fine lasts ∙ m .unrefused;
+        hint-count = m .hint-count;
         list = m .list;
         arrivals = arrivals-alone p agent lent fine ∙ m .arrivals;
         time-count = m .time-count;
@@ -89,7 +87,7 @@ module _ (p : CircularProfile) (agent : Leg) (budget : ℕ) (lent : Lent) where
             (all-members (λ t. List·Memᴰ t (m .list)) (m .list) (λ t there. there));
         rising = rise trip os hints budget turn (times-rise p agent os (m .arrivals));
         few-pops = all-map (Given trip os hints budget) (λ q. q .pops ≤ budget) (path-pops trip os hints budget) ps given;
-        sound = all-map (Given trip os hints budget) (Sound trip os) (λ q. path-sound trip os hints budget q short) ps given;
+        sound = all-map (Given trip os hints budget) (Sound trip os) (path-sound trip os hints budget) ps given;
       }
 
   pub whole : Whole p agent budget lent

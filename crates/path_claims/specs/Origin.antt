@@ -7,9 +7,8 @@ use mathlib.Core.Option.{Option}
 use Rattle.numbers.specs.declared.time.Duration.{Duration}
 use Rattle.numbers.specs.declared.time.TimePoint.{TimePoint}
 use Rattle.obstacles.specs.Obstacle.{Obstacle}
-use Rattle.ranking.specs.declared.order.RankedHint.{RankedHint}
+use Rattle.waits.specs.declared.hint.RankedHint.{RankedHint}
 use Rattle.chains.specs.Answer.{Way}
-use Rattle.chains.specs.Handed.{chainOf, linksIn}
 use Rattle.chains.specs.declared.trial.Trial.the-variants as T
 use Rattle.ways.specs.Tests.{straight}
 use Rattle.ways.specs.declared.trip.Trip.{Trip}
@@ -26,5 +25,5 @@ module _ (trip : Trip) (os : List Obstacle) (hints : List RankedHint) (budget : 
         Origin actions pops hold
     along : (first : Option ℕ) (links : List ℕ) → straight trip os arrival ≡ T.Failed →
         chainFrom trip os hints budget first ≡ Way links pops →
-        built trip (trip .leg .start) unheld (hintsAt hints (linksIn (chainOf links))) ≡ Of actions hold →
+        built trip (trip .leg .start) unheld (hintsAt hints links) ≡ Of actions hold →
         Origin actions pops hold

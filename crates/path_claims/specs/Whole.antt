@@ -14,8 +14,8 @@ use Rattle.shapes.specs.declared.waypoint.Leg.{Leg}
 use Rattle.shapes.specs.declared.waypoint.Waypoint.{Waypoint}
 use Rattle.obstacles.specs.Lent.{Lent, obstaclesOf}
 use Rattle.obstacles.specs.Obstacle.{Obstacle}
-use Rattle.ranking.specs.Hints.{rankedHeld}
-use Rattle.ranking.specs.declared.order.RankedHint.{RankedHint}
+use Rattle.ranking.specs.Hints.{Of}
+use Rattle.waits.specs.declared.hint.RankedHint.{RankedHint}
 use Rattle.hints.specs.Asked.{askedHints}
 use Rattle.hints.specs.Contour.{scaleOf}
 use Rattle.hints.specs.declared.contour.Scale.{Scale}
@@ -73,14 +73,15 @@ module _ (p : CircularProfile) (agent : Leg) (budget : ℕ) (lent : Lent) where
     pub scale : Scale
     pub line : scaleOf agent ≡ L.By scale
     -- The hints are those that the call for hints alone answers (RULES 13.1),
-    pub hinted : askedHints p agent lent .refused ≡ 0
-    pub hint-count : length (rankedHeld (askedHints p agent lent)) ≡ hints
+    pub found : List RankedHint
+    pub hinted : askedHints p agent lent ≡ Of found
+    pub hint-count : length found ≡ hints
     -- the arrival times and the sweeps those of the call for arrival times alone (RULES 13.1),
     pub list : List TimePoint
     pub arrivals : askedArrivals p (agent .end) lent ≡ Answered list sweeps
     pub time-count : length list ≡ times
     -- and the paths those for the arrival times, in turn (RULES 13.1).
-    pub in-turn : InTurn (tripOf p agent scale) (obstaclesOf lent) (rankedHeld (askedHints p agent lent)) budget list ps
+    pub in-turn : InTurn (tripOf p agent scale) (obstaclesOf lent) found budget list ps
     -- So there are no more paths than arrival times (RULES 15.11),
     pub few-paths : length ps ≤ times
     -- each path is for one of them, and the times rise strictly (RULES 15.6).

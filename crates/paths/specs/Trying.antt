@@ -8,10 +8,10 @@ use lib.ListN.{length, getD}
 use lib.Ieee
 use Rattle.shapes.specs.declared.waypoint.Waypoint.{Waypoint}
 use Rattle.obstacles.specs.Obstacle.{Obstacle}
-use Rattle.ranking.specs.Hints.{blankRanked}
-use Rattle.ranking.specs.declared.order.RankedHint.{RankedHint}
+use Rattle.waits.specs.Words.{blankRanked}
+use Rattle.waits.specs.declared.hint.RankedHint.{RankedHint}
 use Rattle.chains.specs.Answer.{Chained}
-use Rattle.chains.specs.Recursive.{recursiveSearch}
+use Rattle.chains.specs.Recursive.{Tried, startedBy, tryHint, tryChild, tryChildren, tryRoots, recursiveSearch}
 use Rattle.chains.specs.declared.trial.Trial.{Trial}
 use Rattle.ways.specs.Travel.{hintWaypoint}
 use Rattle.ways.specs.Tests.{toEnd, toGoal, fromStart}
@@ -33,6 +33,32 @@ startsAt trip os hints i = fromStart trip os (stopIn hints i)
 -- A child's reach is at most its parent's (RULES 13.13).
 unfoldable pub reaches : List RankedHint → ℕ → ℕ → Bool
 reaches hints child i = Ieee.le (getD hints child blankRanked .reach) (getD hints i blankRanked .reach)
+
+-- ---- The search by these tests, a part at a time (RULES 13.10 to 13.19).
+
+-- A hint's own start.
+abbrev pub startTried : Trip → List Obstacle → List RankedHint → ℕ → ℕ → Tried
+startTried trip os hints i pops = startedBy (startsAt trip os hints i) i pops
+
+-- A hint under its parent.
+abbrev pub hintTried : Trip → List Obstacle → List RankedHint → ℕ → ℕ → Option ℕ → ℕ → Tried
+hintTried trip os hints budget i parent pops =
+    tryHint (toParent trip os hints) (startsAt trip os hints) (reaches hints) budget i parent pops
+
+-- A child of hint i.
+abbrev pub childTried : Trip → List Obstacle → List RankedHint → ℕ → ℕ → ℕ → ℕ → Tried
+childTried trip os hints budget child i pops =
+    tryChild (toParent trip os hints) (startsAt trip os hints) (reaches hints) budget child i pops
+
+-- The children of hint i below k, then its own start.
+abbrev pub childrenTried : Trip → List Obstacle → List RankedHint → ℕ → ℕ → ℕ → ℕ → Tried
+childrenTried trip os hints budget i k pops =
+    tryChildren (toParent trip os hints) (startsAt trip os hints) (reaches hints) budget i k pops
+
+-- The n roots from r on.
+abbrev pub rootsTried : Trip → List Obstacle → List RankedHint → ℕ → ℕ → ℕ → ℕ → Chained
+rootsTried trip os hints budget n r pops =
+    tryRoots (toParent trip os hints) (startsAt trip os hints) (reaches hints) budget n r pops
 
 -- The search from a first root; that it is the Rust's loop over a stack is `stack-is-recursion` of `chains`.
 unfoldable pub chainFrom : Trip → List Obstacle → List RankedHint → ℕ → Option ℕ → Chained

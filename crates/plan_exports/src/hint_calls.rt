@@ -1,13 +1,26 @@
 // The hints: the agent comes as plain numbers, the table of obstacles as lent lists.
-use hint_handing::hint_words;
 use hints::calls;
+use lists::words;
 use shapes::profile::CircularProfile;
 use taking::legs;
+use waits::hint_list;
+use waits::hint_list::Filled;
 ghost use Rattle.lists.specs.Outcome.{Handed};
 ghost use Rattle.lending.specs.Lent.{hintsOutcome};
 ghost use Rattle.hints.specs.Asked.{askedHints};
 ghost use Rattle.obstacles.specs.Lent.{lentOf};
 ghost use Rattle.taking.specs.Plain.{plainLeg, plainProfile};
+ghost use Rattle.plan_exports.specs.Given.{filledOutcome};
+
+// Hands over the words of hints, or their refusal.
+fn give_hints(filled: Filled, hints: &[u64], out: &mut [u64]) -> u64
+    ensures { λ r. ⌜ Handed (filledOutcome filled (now (hints .entry))) (now (out .entry)) (now (out .exit)) r ⌝ }
+{
+    match filled {
+        Filled::Refused(number) => words::refuse(out, number),
+        Filled::Of(_count) => words::hand_over(out, hints),
+    }
+}
 
 // The ranked hints for the agent's leg among the obstacles of a lent table.
 #[no_mangle]
@@ -31,8 +44,8 @@ pub extern "C" fn igelbert_wait_hints(
 {
     let p = CircularProfile { footprint, follow };
     let agent = legs::leg_of(t0, x0, y0, t1, x1, y1);
-    hint_words::give_hints(
-        calls::wait_hints(p, agent, starts, numbers, times, xs, ys),
-        out,
-    )
+    let mut hints = [0u64; 385];
+    let filled = calls::wait_hints(p, agent, starts, numbers, times, xs, ys, &mut hints);
+    let end = 1 + 6 * hint_list::count_of(&hints);
+    give_hints(filled, &hints[..end], out)
 }

@@ -10,7 +10,7 @@ use lib.ListN.{length, take, length-map}
 use lib.Seq.{length-take-le}
 use Rattle.numbers.specs.declared.time.TimePoint.{TimePoint}
 use Rattle.obstacles.specs.Obstacle.{Obstacle}
-use Rattle.ranking.specs.declared.order.RankedHint.{RankedHint}
+use Rattle.waits.specs.declared.hint.RankedHint.{RankedHint}
 use Rattle.ways.specs.declared.trip.Trip.{Trip}
 use Rattle.arrival_paths.specs.Path as P
 use Rattle.arrival_paths.specs.Path.{Sought, pathFor}

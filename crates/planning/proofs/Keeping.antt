@@ -14,7 +14,7 @@ use Rattle.patterns.specs.Word.{wordOf}
 use Rattle.numbers.specs.declared.time.Duration.{Duration}
 use Rattle.numbers.specs.declared.time.TimePoint.{TimePoint}
 use Rattle.obstacles.specs.Obstacle.{Obstacle}
-use Rattle.ranking.specs.declared.order.RankedHint.{RankedHint}
+use Rattle.waits.specs.declared.hint.RankedHint.{RankedHint}
 use Rattle.ways.specs.declared.trip.Trip.{Trip}
 use Rattle.actions.specs.Action.{actionWords, actionRows}
 use Rattle.actions.specs.declared.action.SafeAction.{SafeAction}
@@ -189,7 +189,8 @@ module _ {trip : Trip} {os : List Obstacle} {hints : List RankedHint} {budget : 
           few = omega arith;
         }
 
-    module _ {many pops : ℕ} {hold : Duration} (e : r ≡ F.Path many pops hold) where
+    -- Where there are at most 64 hints.
+    module _ (few-hints : length hints ≤ 64) {many pops : ℕ} {hold : Duration} (e : r ≡ F.Path many pops hold) where
       abbrev these : List SafeAction
       these = actionsIn here
 
@@ -200,7 +201,7 @@ module _ {trip : Trip} {os : List Obstacle} {hints : List RankedHint} {budget : 
       counts = path-counts here many pops hold (sym (p .found) ∙ e)
 
       pub path-few : many ≤ 129
-      path-few = let short = path-short trip os hints budget arrival these pops hold is in omega (arith, counts)
+      path-few = let short = path-short trip os hints few-hints budget arrival these pops hold is in omega (arith, counts)
 
       -- A path is put behind the others.
       pub kept-path : {next : List ℕ} →

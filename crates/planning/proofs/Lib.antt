@@ -2,3 +2,4 @@ mod Few
 mod Fewer
 mod Keeping
 mod Among
+mod Hinted

@@ -6,10 +6,11 @@ use lists::rows;
 use numbers::time::TimePoint;
 use plans::rooms;
 use plans::rooms::Paths;
-use ranking::ranked_hints::RankedHints;
 use search::arrival_times;
 use search::arrival_times::Arrivals;
 use shapes::bounding_box::BoundingBox;
+use waits::hint_list;
+use waits::hint_list::Filled;
 use ways::trip::Trip;
 ghost use mathlib.Core.Path.{_≡_};
 ghost use mathlib.Core.Bool.{true};
@@ -18,14 +19,14 @@ ghost use lib.ListN.{length, take};
 ghost use Rattle.obstacles.specs.Lent.{lentOf, obstaclesOf, obstaclesWith};
 ghost use Rattle.obstacles.specs.Boxes.{boxIn};
 ghost use Rattle.obstacles.specs.Examined.{isFew};
-ghost use Rattle.ranking.specs.Hints.{rankedHeld};
+ghost use Rattle.waits.specs.Words.{hintsIn};
 ghost use Rattle.plans.specs.Plan.{Refused, pathsFor, instantsOf, pathsPlanned, timesPlanned, hintsPlanned};
 ghost use Rattle.plans.specs.Laid.{PutPaths, PlanHanded};
 
 // A path or none for each of the first `count` arrival times of a list.
 fn put_paths(
     trip: Trip,
-    hints: RankedHints,
+    hints: &[u64; 385],
     budget: u64,
     list: &[i64],
     count: usize,
@@ -39,7 +40,7 @@ fn put_paths(
     actions: &mut [u64],
 ) -> Paths
     requires { ⌜ (count ≤ 289) × (count ≤ length (now list)) ⌝ }
-    ensures { λ r. ⌜ PutPaths (pathsFor trip (obstaclesWith (lentOf (now (starts .entry)) (now (numbers .entry)) (now (times .entry)) (now (xs .entry)) (now (ys .entry))) (boxIn (now (boxes .entry)))) (rankedHeld hints) budget (instantsOf (take count (now (list .entry))))) (now (paths .entry)) (now (paths .exit)) (now (actions .entry)) (now (actions .exit)) r ⌝ }
+    ensures { λ r. ⌜ PutPaths (pathsFor trip (obstaclesWith (lentOf (now (starts .entry)) (now (numbers .entry)) (now (times .entry)) (now (xs .entry)) (now (ys .entry))) (boxIn (now (boxes .entry)))) (hintsIn (now (hints .entry))) budget (instantsOf (take count (now (list .entry))))) (now (paths .entry)) (now (paths .exit)) (now (actions .entry)) (now (actions .exit)) r ⌝ }
 {
     let mut found = 0;
     let mut row = 0;
@@ -79,7 +80,7 @@ fn put_paths(
 // The paths for the hints and the arrival times that there are.
 fn plan_paths(
     trip: Trip,
-    hints: RankedHints,
+    hints: &[u64; 385],
     budget: u64,
     list: &[i64],
     count: usize,
@@ -94,7 +95,7 @@ fn plan_paths(
     actions: &mut [u64],
 ) -> u64
     requires { ⌜ (count ≤ 289) × (count ≤ length (now list)) ⌝ }
-    ensures { λ r. ⌜ PlanHanded (pathsPlanned trip (obstaclesWith (lentOf (now (starts .entry)) (now (numbers .entry)) (now (times .entry)) (now (xs .entry)) (now (ys .entry))) (boxIn (now (boxes .entry)))) (rankedHeld hints) budget (instantsOf (take count (now (list .entry)))) sweeps) (now (paths .entry)) (now (paths .exit)) (now (actions .entry)) (now (actions .exit)) r ⌝ }
+    ensures { λ r. ⌜ PlanHanded (pathsPlanned trip (obstaclesWith (lentOf (now (starts .entry)) (now (numbers .entry)) (now (times .entry)) (now (xs .entry)) (now (ys .entry))) (boxIn (now (boxes .entry)))) (hintsIn (now (hints .entry))) budget (instantsOf (take count (now (list .entry)))) sweeps) (now (paths .entry)) (now (paths .exit)) (now (actions .entry)) (now (actions .exit)) r ⌝ }
 {
     let put = put_paths(
         trip,
@@ -114,7 +115,7 @@ fn plan_paths(
     match put {
         Paths::Refused(n) => rooms::refuse(paths, actions, n),
         Paths::Of(found, many) => {
-            let n = hints.len();
+            let n = hint_list::count_of(hints);
             rows::put_row(
                 paths,
                 0,
@@ -131,7 +132,7 @@ fn plan_paths(
 // The arrival times at the goal, then the paths.
 fn plan_times(
     trip: Trip,
-    hints: RankedHints,
+    hints: &[u64; 385],
     budget: u64,
     starts: &[usize],
     numbers: &[f64],
@@ -143,7 +144,7 @@ fn plan_times(
     actions: &mut [u64],
 ) -> u64
     requires { ⌜ isFew (obstaclesOf (lentOf (now starts) (now numbers) (now times) (now xs) (now ys))) ≡ true ⌝ }
-    ensures { λ r. ⌜ PlanHanded (timesPlanned trip (obstaclesWith (lentOf (now (starts .entry)) (now (numbers .entry)) (now (times .entry)) (now (xs .entry)) (now (ys .entry))) (boxIn (now (boxes .entry)))) (obstaclesOf (lentOf (now (starts .entry)) (now (numbers .entry)) (now (times .entry)) (now (xs .entry)) (now (ys .entry)))) (rankedHeld hints) budget) (now (paths .entry)) (now (paths .exit)) (now (actions .entry)) (now (actions .exit)) r ⌝ }
+    ensures { λ r. ⌜ PlanHanded (timesPlanned trip (obstaclesWith (lentOf (now (starts .entry)) (now (numbers .entry)) (now (times .entry)) (now (xs .entry)) (now (ys .entry))) (boxIn (now (boxes .entry)))) (obstaclesOf (lentOf (now (starts .entry)) (now (numbers .entry)) (now (times .entry)) (now (xs .entry)) (now (ys .entry)))) (hintsIn (now (hints .entry))) budget) (now (paths .entry)) (now (paths .exit)) (now (actions .entry)) (now (actions .exit)) r ⌝ }
 {
     let leg = trip.leg;
     let profile = trip.profile;
@@ -198,7 +199,8 @@ pub(crate) fn compute_safe_linear_paths(
     let leg = trip.leg;
     let profile = trip.profile;
     let bounds = BoundingBox::for_line(profile.footprint, leg);
-    let hints = path_hints::compute_safe_linear_path_wait_hints(
+    let mut hints = [0u64; 385];
+    let filled = path_hints::compute_safe_linear_path_wait_hints(
         profile,
         leg,
         bounds,
@@ -208,22 +210,22 @@ pub(crate) fn compute_safe_linear_paths(
         xs,
         ys,
         boxes,
+        &mut hints,
     );
-    let refused = hints.refused;
-    if refused != 0 {
-        return rooms::refuse(paths, actions, refused);
+    match filled {
+        Filled::Refused(n) => rooms::refuse(paths, actions, n),
+        Filled::Of(_count) => plan_times(
+            trip,
+            &hints,
+            budget,
+            starts,
+            numbers,
+            times,
+            xs,
+            ys,
+            boxes,
+            paths,
+            actions,
+        ),
     }
-    plan_times(
-        trip,
-        hints,
-        budget,
-        starts,
-        numbers,
-        times,
-        xs,
-        ys,
-        boxes,
-        paths,
-        actions,
-    )
 }

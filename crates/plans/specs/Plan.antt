@@ -3,7 +3,6 @@
 use Prim.Native.Nat.{ℕ}
 use mathlib.Core.Bool.{cond}
 use mathlib.Core.List.{List, [], _∷_, _++_, map}
-use lib.Dec.{eqb}
 use lib.IntN.{ℤ}
 use lib.ListN.{length}
 use Rattle.patterns.specs.Word.{wordOf}
@@ -14,9 +13,9 @@ use Rattle.shapes.specs.Leg.{isBrief}
 use Rattle.shapes.specs.declared.profile.CircularProfile.{CircularProfile}
 use Rattle.shapes.specs.declared.waypoint.Leg.{Leg}
 use Rattle.obstacles.specs.Obstacle.{Obstacle}
-use Rattle.ranking.specs.Hints.{rankedHeld}
-use Rattle.ranking.specs.declared.order.RankedHint.{RankedHint}
-use Rattle.ranking.specs.declared.ranked_hints.RankedHints.{RankedHints}
+use Rattle.ranking.specs.Hints as R
+use Rattle.ranking.specs.Hints.{Ranked}
+use Rattle.waits.specs.declared.hint.RankedHint.{RankedHint}
 use Rattle.hints.specs.Contour.{scaleOf, rankedHints}
 use Rattle.hints.specs.declared.contour.Scale.{Scale}
 use Rattle.hints.specs.declared.contour.Scaling.{Scaling}
@@ -68,8 +67,9 @@ abbrev pub withScale : Scaling → (Scale → Plan) → Plan
 withScale (L.By scale) go = go scale
 withScale (L.Refused n) go = Refused n
 
-abbrev pub hinted : RankedHints → (List RankedHint → Plan) → Plan
-hinted list go = cond (eqb (list .refused) 0) (go (rankedHeld list)) (Refused (list .refused))
+abbrev pub hinted : Ranked → (List RankedHint → Plan) → Plan
+hinted (R.Of hints) go = go hints
+hinted (R.Refused n) go = Refused n
 
 -- `Unfinished` is never the answer, and 0 is no refusal's number.
 abbrev pub timed : A.Searched → (List TimePoint → ℕ → Plan) → Plan

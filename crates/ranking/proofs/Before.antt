@@ -12,7 +12,7 @@ use Rattle.floats.proofs.Tests.{passed, failed, is-true}
 use Rattle.floats.proofs.Preorder.{le-trans}
 use Rattle.floats.proofs.Strict.{lt→le, le→not-lt, not-lt→le}
 use Rattle.numbers.proofs.Integers.{below→at-most, at-most→not-below, at-most-trans, below-or-at-most}
-use Rattle.ranking.specs.declared.order.RankedHint.{RankedHint}
+use Rattle.waits.specs.declared.hint.RankedHint.{RankedHint}
 use Rattle.ranking.specs.Ranked.{goesBefore, isKnown}
 
 at-most-below : (x y z : ℤ) → x ≤ℤ y → y <ℤ z → x <ℤ z

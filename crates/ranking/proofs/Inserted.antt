@@ -8,7 +8,7 @@ use native.Mathlib.Omega.{arith}
 use borrow.Author.Tests.{not-true}
 use lib.ListN.{length}
 use Rattle.numbers.proofs.Exact.{both}
-use Rattle.ranking.specs.declared.order.RankedHint.{RankedHint}
+use Rattle.waits.specs.declared.hint.RankedHint.{RankedHint}
 use Rattle.ranking.specs.Ranked.{goesBefore, inserted, sorted, those, Permuted, areLevel, isKnown}
 use Rattle.ranking.proofs.Before.{before-asym, before-trans}
 use Rattle.ranking.proofs.Those.{Each, first, rest, in-front, none-there, count-first}

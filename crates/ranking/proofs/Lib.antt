@@ -3,6 +3,5 @@ mod Those
 mod Sorted
 mod Inserted
 pub mod Theorems
-pub mod Held
 mod Places
 pub mod OneByOne

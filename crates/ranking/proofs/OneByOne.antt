@@ -1,83 +1,83 @@
--- Hints put at their places one by one, at most 64, are held as `ranked` of all and never refused (RULES 11.6, 11.7).
+-- Hints put at their places one by one, in words: those put so far stand in front, ranked, and all of them are an answer's words
+-- (RULES 11.6 to 11.8).
 -- Assumes nothing.
 use mathlib.Core.Path.{_≡_, refl, sym, ap, _∙_}
 use mathlib.Core.List.{List, [], _∷_, _++_}
-use Prim.Native.Nat.{_+_, _≤_, _<_}
+use Prim.Native.Nat.{ℕ, suc, _+_, _-_, _*_, _≤_, _<_}
+use native.Mathlib.Numerals.{add-one}
 use native.Mathlib.Omega.{arith}
-use borrow.Author.Tests.{lt-leb}
-use lib.ListN.{length, drop, length-append, length-drop}
-use lib.Seq.{length-take-le, take-at}
-use Rattle.ranking.specs.declared.order.RankedHint.{RankedHint}
-use Rattle.ranking.specs.declared.ranked_hints.RankedHints.{RankedHints}
-use Rattle.ranking.specs.Ranked.{inserted, rankedOnto, ranked}
-use Rattle.ranking.specs.Hints.{noRanked, rankedHeld, withRanked}
-use Rattle.ranking.proofs.Held.{Holds, holds-none}
+use borrow.Author.Tests.{lt-ltb}
+use lib.ListN.{length, take, drop, set, replicate, take-append-drop, length-replicate}
+use lib.Seq.{length-take-le}
+use Rattle.waits.specs.Words.{countIn, hintsIn, allWords, laid}
+use Rattle.waits.specs.declared.hint.RankedHint.{RankedHint}
+use Rattle.waits.proofs.Reading.{few, first-hints}
+use Rattle.waits.proofs.Words.{KeptRanked, AllRankedKept, laid-count, laid-append, laid-again, laid-words, laid-read, drop-zeros}
+use Rattle.ranking.specs.Ranked.{inserted, ranked}
+use Rattle.ranking.specs.Hints.{Of, rankedWords, rankOf, rankedInto}
 use Rattle.ranking.proofs.Those.{permuted-length}
-use Rattle.ranking.proofs.Inserted.{inserted-permuted}
+use Rattle.ranking.proofs.Inserted.{by-place, inserted-permuted}
+use Rattle.ranking.proofs.Theorems.{ranked-permuted}
+use Rattle.ranking.proofs.Places.{place-at-most}
 
-length-inserted : (h : RankedHint) (l : List RankedHint) → length (inserted h l) ≡ length l + 1
+pub length-ranked : (l : List RankedHint) → length (ranked l) ≡ length l
+length-ranked l = permuted-length (ranked l) l (ranked-permuted l)
+
+pub length-inserted : (h : RankedHint) (l : List RankedHint) → length (inserted h l) ≡ length l + 1
 length-inserted h l = permuted-length (inserted h l) (h ∷ l) (inserted-permuted h l) ∙ omega arith
 
-onto-last : (done l : List RankedHint) (h : RankedHint) → rankedOnto done (l ++ h ∷ []) ≡ inserted h (rankedOnto done l)
-unfolding rankedOnto
-onto-last done [] h = refl
-onto-last done (x ∷ l) h = onto-last (inserted x done) l h
+pub inserted-kept : (h : RankedHint) (l : List RankedHint) → KeptRanked h → AllRankedKept l → AllRankedKept (inserted h l)
+inserted-kept h [] k all = unfold inserted in (k, tt)
+inserted-kept h (x ∷ l) k all =
+    by-place AllRankedKept h x l (λ b. (k, all)) (λ b. (all .0, inserted-kept h l k (all .1)))
 
--- One hint more, in a list of 64 places that has room for it: it is not refused, there is one more, there are 64 places,
-module _ (list : RankedHints) (h : RankedHint) (long : length (list .all) ≡ 64) (room : list .count < 64) where
-  abbrev others : List RankedHint
-  others = drop (list .count + 1) (list .all)
+-- It stands at its place among the others.
+inserted-at : (h : RankedHint) (l : List RankedHint) → inserted h l ≡ take (rankOf h l) l ++ h ∷ drop (rankOf h l) l
+unfolding rankOf
+inserted-at h [] = unfold inserted in refl
+inserted-at h (x ∷ l) =
+    by-place
+    (λ m. m ≡ take (rankOf h (x ∷ l)) (x ∷ l) ++ h ∷ drop (rankOf h (x ∷ l)) (x ∷ l))
+    h
+    x
+    l
+    (λ b. rw b)
+    (λ b. rw (b, add-one (rankOf h l)) (ap (λ (t : List RankedHint). x ∷ t) (inserted-at h l)))
 
-  taken : withRanked list h ≡ record { refused = 0; count = list .count + 1; all = inserted h (rankedHeld list) ++ others }
-  unfolding withRanked
-  taken = rw (lt-leb 64 (list .count) room)
+-- Hints laid over the later ones of those that are there replace them.
+laid-over : (words : List ℕ) (k : ℕ) (l more : List RankedHint) → k ≤ length l → length (drop k l) ≤ length more →
+    laid (laid words 0 l) k more ≡ laid words 0 (take k l ++ more)
+laid-over words k l more few long =
+    let end : 0 + length (take k l) ≡ k = omega (arith, length-take-le k l few) in
+    let parts : laid words 0 l ≡ laid (laid words 0 (take k l)) k (drop k l) =
+    ap (laid words 0) (sym (take-append-drop k l)) ∙ laid-append words 0 (take k l) (drop k l) ∙
+    ap (λ (n : ℕ). laid (laid words 0 (take k l)) n (drop k l)) end in
+    ap (λ (m : List ℕ). laid m k more) parts ∙ laid-again (laid words 0 (take k l)) k (drop k l) more long ∙
+    ap (λ (n : ℕ). laid (laid words 0 (take k l)) n more) (sym end) ∙ sym (laid-append words 0 (take k l) more)
 
-  size : length (inserted h (rankedHeld list)) ≡ list .count + 1
-  unfolding rankedHeld
-  size = omega (arith, length-inserted h (rankedHeld list), length-take-le (list .count) (list .all) (omega arith))
+-- One more, among those that were put in front (RULES 11.7).
+pub ranked-into : (words : List ℕ) (done : List RankedHint) (n : ℕ) (h : RankedHint) →
+    length words ≡ 385 → length done ≡ n → n < countIn words → AllRankedKept done →
+    rankedInto (laid words 0 done) n h ≡ laid words 0 (inserted h done)
+unfolding rankedInto
+ranked-into words done n h long size there kept =
+    let count : countIn (laid words 0 done) ≡ countIn words = laid-count words 0 done in
+    let front : take n (hintsIn (laid words 0 done)) ≡ done =
+    first-hints (laid words 0 done) n (omega arith) ∙ rw (← size) (laid-read words 0 done (omega (arith, few words)) long kept) in
+    rw (front, lt-ltb n (countIn (laid words 0 done)) (omega arith), inserted-at h done)
+    (laid-over words (rankOf h done) done (h ∷ drop (rankOf h done) done) (place-at-most h done) (omega arith))
 
-  pub not-refused : withRanked list h .refused ≡ 0
-  not-refused = rw taken
+-- ---- The words of an answer.
 
-  pub one-more : withRanked list h .count ≡ list .count + 1
-  one-more = rw taken
+counted-words : (n : ℕ) (l : List RankedHint) → n ≡ 384 → length l ≤ 64 →
+    laid (length l ∷ replicate n 0) 0 l ≡ length l ∷ (allWords l ++ replicate (n - 6 * length l) 0)
+counted-words n l long room =
+    let words = length l ∷ replicate n 0 in
+    let size : length words ≡ 385 = omega (arith, length-replicate {A = ℕ} n 0) in
+    let end : 6 * (0 + length l) + 1 ≡ suc (6 * length l) = omega arith in
+    rw (laid-words words 0 l (omega arith) size, end, drop-zeros n (6 * length l) (omega arith))
 
-  pub still-long : length (withRanked list h .all) ≡ 64
-  still-long =
-      let all = length-append (inserted h (rankedHeld list)) others in
-      rw taken (omega (arith, size, length-drop (list .count + 1) (list .all)))
-
-  -- the hint is at its place,
-  pub one-held : rankedHeld (withRanked list h) ≡ inserted h (rankedHeld list)
-  unfolding rankedHeld
-  one-held = rw taken (take-at (inserted h (rankedHeld list)) others (list .count + 1) size)
-
-  -- and where the others are held as `ranked` of those found so far, so are all.
-  pub found-next : (l : List RankedHint) → rankedHeld list ≡ ranked l → rankedHeld (withRanked list h) ≡ ranked (l ++ h ∷ [])
-  found-next l e = one-held ∙ ap (inserted h) e ∙ sym (onto-last [] l h)
-
--- Hints in the order of finding, each put at its place.
-unfoldable pub withAllRanked : RankedHints → List RankedHint → RankedHints
-withAllRanked list [] = list
-withAllRanked list (h ∷ l) = withAllRanked (withRanked list h) l
-
-holds-onto : (list : RankedHints) (done l : List RankedHint) →
-    Holds list done → length done + length l ≤ 64 → Holds (withAllRanked list l) (rankedOnto done l)
-unfolding withAllRanked rankedOnto
-holds-onto list done [] k b = k
-holds-onto list done (h ∷ l) k b =
-    let count = k .counted in
-    let size = length-inserted h done in
-    let room : list .count < 64 = omega arith in
-    let next : Holds (withRanked list h) (inserted h done) =
-    record {
-      unrefused = not-refused list h (k .long) room;
-      counted = one-more list h (k .long) room ∙ omega arith;
-      long = still-long list h (k .long) room;
-      these = one-held list h (k .long) room ∙ ap (inserted h) (k .these);
-    } in
-    holds-onto (withRanked list h) (inserted h done) l next (omega arith)
-
--- From none on, at most 64.
-pub found-ranked : (l : List RankedHint) → length l ≤ 64 → Holds (withAllRanked noRanked l) (ranked l)
-found-ranked l few = holds-onto noRanked [] l holds-none (omega arith)
+-- The count, the hints, and zero behind them (RULES 11.8).
+pub answer-words : (l : List RankedHint) → length l ≤ 64 → laid (set (replicate 385 0) 0 (length l)) 0 l ≡ rankedWords (Of l)
+unfolding rankedWords
+answer-words l room = counted-words 384 l refl room

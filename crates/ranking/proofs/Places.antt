@@ -1,34 +1,35 @@
--- A loop along the first n places of an array: the place of a hint, and room for one more.
+-- Loops along hints: the place of one more among the first n, room for it there, and whether all are in order.
 -- Assumes nothing.
-use mathlib.Core.Path.{_≡_, refl, ap, _∙_}
+use mathlib.Core.Path.{_≡_, refl, sym, ap, _∙_}
+use mathlib.Core.Logic.{inl}
 use mathlib.Core.Bool.{Bool, true, false, cond}
-use mathlib.Core.List.{List, [], _∷_, _++_}
-use Prim.Native.Nat.{ℕ, zero, suc, _+_, _-_, _≤_, _<_}
-use native.Mathlib.Nat.{not-suc-le-zero}
-use native.Mathlib.Numerals.{add-one, sub-one}
+use mathlib.Core.List.{List, [], _∷_}
+use Prim.Native.Nat.{ℕ, suc, _+_, _-_, _≤_, _<_}
+use native.Mathlib.Numerals.{add-one}
 use native.Mathlib.Omega.{arith}
-use lib.ListN.{length, take, drop, set, getD, length-set, drop-of-length-le}
-use lib.Seq.{length-take-le, take-suc, drop-cons, append-snoc, set-split, getD-set-same, take-set-le, drop-set-lt}
-use lib.Seq.{getD-take, take-at, drop-at}
-use Rattle.ranking.specs.declared.order.RankedHint.{RankedHint}
-use Rattle.ranking.specs.Ranked.{goesBefore, inserted}
+use lib.ListN.{length, take, drop, getD, length-drop, drop-of-length-le}
+use lib.Seq.{length-take-le, drop-cons, getD-take}
+use Rattle.waits.specs.Words.{blankRanked, countIn, hintIn, hintsIn, putIn, laid}
+use Rattle.waits.specs.declared.hint.RankedHint.{RankedHint}
+use Rattle.waits.proofs.Reading.{hint-there}
+use Rattle.waits.proofs.Words.{other-hint, laid-apart, laid-count, put-laid}
+use Rattle.ranking.specs.Ranked.{goesBefore, sorted}
 use Rattle.ranking.specs.Hints.{rankOf}
-use Rattle.ranking.proofs.Inserted.{by-place}
 
--- ---- What is left at place i.
+-- ---- What is left of a list at place i, and behind its end.
+
+next : (l : List RankedHint) (i : ℕ) (d : RankedHint) → i < length l → drop i l ≡ getD l i d ∷ drop (i + 1) l
+next l i d h = rw (add-one i, drop-cons l i d h)
+
+-- ---- The place of a hint.
 
 module _ (l : List RankedHint) (n i : ℕ) (room : n ≤ length l) where
-  -- One more and the others, or none.
   from : (d : RankedHint) → i < n → drop i (take n l) ≡ getD l i d ∷ drop (i + 1) (take n l)
   from d h =
       let all : length (take n l) ≡ n = length-take-le n l room in
-      rw (add-one i, drop-cons (take n l) i d (omega arith), getD-take n l i d h)
+      rw (next (take n l) i d (omega arith), getD-take n l i d h)
 
-  none-left : n ≤ i → drop i (take n l) ≡ []
-  none-left h =
-      let all : length (take n l) ≡ n = length-take-le n l room in drop-of-length-le (take n l) {i = i} (omega arith)
-
-  -- The place of a hint is here, or further on, or behind all.
+  -- It is here, or further on, or behind all.
   pub place-here : (h d : RankedHint) → i < n → goesBefore h (getD l i d) ≡ true → rankOf h (drop i (take n l)) ≡ 0
   unfolding rankOf
   place-here h d b e = rw (from d b, e)
@@ -40,9 +41,11 @@ module _ (l : List RankedHint) (n i : ℕ) (room : n ≤ length l) where
 
   pub place-end : (h : RankedHint) → n ≤ i → rankOf h (drop i (take n l)) ≡ 0
   unfolding rankOf
-  place-end h b = rw (none-left b)
+  place-end h b =
+      let all : length (take n l) ≡ n = length-take-le n l room in rw (drop-of-length-le (take n l) {i = i} (omega arith))
 
-place-at-most : (h : RankedHint) (l : List RankedHint) → rankOf h l ≤ length l
+-- At most all are in front of it.
+pub place-at-most : (h : RankedHint) (l : List RankedHint) → rankOf h l ≤ length l
 unfolding rankOf
 place-at-most h [] = omega arith
 place-at-most h (x ∷ l) = by (goesBefore h x) (place-at-most h l)
@@ -51,59 +54,62 @@ place-at-most h (x ∷ l) = by (goesBefore h x) (place-at-most h l)
     by true p = omega arith
     by false p = omega arith
 
--- At most all n are in front of it.
-pub place-in : (h : RankedHint) (l : List RankedHint) (n : ℕ) → n ≤ length l → rankOf h (take n l) ≤ n
-place-in h l n room = omega (arith, place-at-most h (take n l), length-take-le n l room)
+-- ---- Room for it: of the words as they were, those at place j are free, and behind it stand the hints from j on, one place up.
 
--- ---- Room for one more.
+abbrev pub HasGap : List ℕ → List RankedHint → ℕ → List ℕ → Type 0
+HasGap words l j moved = (x : RankedHint) → putIn moved j x ≡ laid words j (x ∷ drop j l)
 
--- A list without its j-th, and one with h put in as its j-th.
-abbrev pub without : {A : Type 0} → ℕ → List A → List A
-without j l = take j l ++ drop (j + 1) l
+-- Behind the last hint there is room already.
+pub gap-last : (words : List ℕ) (l : List RankedHint) (n : ℕ) → length l ≤ n → HasGap words l n words
+unfolding laid
+gap-last words l n end x = rw (drop-of-length-le l {i = n} end)
 
-abbrev put : {A : Type 0} → ℕ → A → List A → List A
-put j h l = take j l ++ h ∷ drop j l
+-- Where hint j - 1 moves up, its own place is free.
+pub gap-moves : (words : List ℕ) (l : List RankedHint) (j : ℕ) (moved : List ℕ) (d : RankedHint) → 0 < j → j ≤ length l →
+    HasGap words l j moved → HasGap words l (j - 1) (putIn moved j (getD l (j - 1) d))
+unfolding laid
+gap-moves words l j moved d some few gap x =
+    let y = getD l (j - 1) d in
+    let on : j ≡ suc (j - 1) = omega arith in
+    let up : j - 1 + 1 ≡ j = omega arith in
+    let rest : drop (j - 1) l ≡ y ∷ drop j l = next l (j - 1) d (omega arith) ∙ ap (λ (k : ℕ). y ∷ drop k l) up in
+    ap (λ (m : List ℕ). putIn m (j - 1) x) (gap y) ∙
+    put-laid words j (y ∷ drop j l) (j - 1) x (omega arith) ∙
+    ap (λ (k : ℕ). laid (putIn words (j - 1) x) k (y ∷ drop j l)) on ∙
+    ap (λ (r : List RankedHint). laid words (j - 1) (x ∷ r)) (sym rest)
 
--- What stands below the gap moves into it, and the gap is one lower.
-pub room-next : {A : Type 0} (a : List A) (j : ℕ) (d : A) → 0 < j → j < length a →
-    without (j - 1) (set a j (getD a (j - 1) d)) ≡ without j a
-room-next a zero d z b = absurd (not-suc-le-zero z)
-room-next a (suc j) d z b =
-    let v = getD a j d in
-    let moved = set a (suc j) v in
-    let same : suc j < length moved = rw (length-set a (suc j) v) b in
-    rw (
-      sub-one (suc j),
-      add-one j,
-      take-set-le j a (suc j) v (omega arith),
-      drop-cons moved (suc j) d same,
-      getD-set-same a (suc j) v d b,
-      drop-set-lt (suc (suc j)) a (suc j) v (omega arith),
-      add-one (suc j),
-      take-suc a j d (omega arith),
-      append-snoc (take j a) v (drop (suc (suc j)) a),
-    )
+-- The hints in front of the gap are as they were.
+pub gap-front : (words : List ℕ) (n j : ℕ) (moved : List ℕ) → n ≤ countIn words → 0 < j → j ≤ n →
+    HasGap words (take n (hintsIn words)) j moved →
+    getD (hintsIn moved) (j - 1) blankRanked ≡ getD (take n (hintsIn words)) (j - 1) blankRanked
+unfolding laid
+gap-front words n j moved there some few gap =
+    let l = take n (hintsIn words) in
+    let count : countIn moved ≡ countIn words =
+    sym (laid-count moved j (blankRanked ∷ [])) ∙ ap countIn (gap blankRanked) ∙ laid-count words j (blankRanked ∷ drop j l) in
+    let same : hintIn moved (j - 1) ≡ hintIn words (j - 1) =
+    sym (other-hint moved j blankRanked (j - 1) (inl (omega arith))) ∙ ap (λ (m : List ℕ). hintIn m (j - 1)) (gap blankRanked) ∙
+    laid-apart words j (blankRanked ∷ drop j l) (j - 1) (inl (omega arith)) in
+    hint-there moved (j - 1) (omega arith) ∙ same ∙ sym (hint-there words (j - 1) (omega arith)) ∙
+    sym (getD-take n (hintsIn words) (j - 1) blankRanked (omega arith))
 
--- In the gap stands what is put there.
-set-put : {A : Type 0} (a : List A) (j : ℕ) (h : A) → j < length a → set a j h ≡ put j h (without j a)
-set-put a j h b =
-    let all : length (take j a) ≡ j = length-take-le j a (omega arith) in
-    rw (take-at (take j a) (drop (j + 1) a) j all, drop-at (take j a) (drop (j + 1) a) j all, add-one j) (set-split a j h b)
+-- ---- A test of neighbours: one goes before the one in front of it, or it does not and the rest decide, or there is none behind.
 
-put-inserted : (h : RankedHint) (l r : List RankedHint) → put (rankOf h l) h (l ++ r) ≡ inserted h l ++ r
-unfolding rankOf
-put-inserted h [] r = unfold inserted in refl
-put-inserted h (x ∷ l) r =
-    by-place
-    (λ m. put (rankOf h (x ∷ l)) h (x ∷ (l ++ r)) ≡ m ++ r)
-    h
-    x
-    l
-    (λ b. rw b)
-    (λ b. rw (b, add-one (rankOf h l)) (ap (λ (t : List RankedHint). x ∷ t) (put-inserted h l r)))
+module _ (l : List RankedHint) (i : ℕ) (d : RankedHint) where
+  pub sorted-fails : i + 1 < length l → goesBefore (getD l (i + 1) d) (getD l i d) ≡ true → sorted (drop i l) ≡ false
+  unfolding sorted
+  sorted-fails h e = rw (next l i d (omega arith), next l (i + 1) d h, e)
 
--- Where the gap is at the place of h, that is h put at its place.
-pub room-filled : (h : RankedHint) (all a : List RankedHint) (n j : ℕ) →
-    j ≡ rankOf h (take n all) → j < length a → without j a ≡ without n all →
-    set a j h ≡ inserted h (take n all) ++ drop (n + 1) all
-room-filled h all a n j p b e = set-put a j h b ∙ rw (e, p) (put-inserted h (take n all) (drop (n + 1) all))
+  pub sorted-passes : i + 1 < length l → goesBefore (getD l (i + 1) d) (getD l i d) ≡ false →
+      sorted (drop i l) ≡ sorted (drop (i + 1) l)
+  unfolding sorted
+  sorted-passes h e = rw (next l i d (omega arith), next l (i + 1) d h, e)
+
+  pub sorted-done : length l ≤ i + 1 → sorted (drop i l) ≡ true
+  unfolding sorted
+  sorted-done h = by (drop i l) (omega (arith, length-drop i l))
+    where
+      by : (m : List RankedHint) → length m ≤ 1 → sorted m ≡ true
+      by [] few = refl
+      by (x ∷ []) few = refl
+      by (x ∷ (y ∷ m)) few = absurd (omega arith)

@@ -6,7 +6,7 @@ use mathlib.Core.Bool.{Bool, true, false, not, _&&_}
 use mathlib.Core.List.{List, [], _∷_, List·Memᴰ, List·Memᴰ·not-nil, List·Memᴰ·cases-cons}
 use borrow.Author.Tests.{not-true}
 use Rattle.numbers.proofs.Exact.{both}
-use Rattle.ranking.specs.declared.order.RankedHint.{RankedHint}
+use Rattle.waits.specs.declared.hint.RankedHint.{RankedHint}
 use Rattle.ranking.specs.Ranked.{goesBefore, sorted, isKnown}
 use Rattle.ranking.proofs.Before.{before-self, before-trans}
 use Rattle.ranking.proofs.Those.{Each, first, rest}

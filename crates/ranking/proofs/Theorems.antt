@@ -10,8 +10,9 @@ use native.Mathlib.Nat.{not-suc-le-zero, le-of-suc-le-suc}
 use native.Mathlib.Omega.{arith}
 use lib.ListN.{length, getD}
 use Rattle.lists.specs.Listed.{every}
-use Rattle.ranking.specs.declared.order.RankedHint.{RankedHint}
-use Rattle.ranking.specs.Ranked.{goesBefore, inserted, rankedOnto, ranked, sorted, those, Permuted, areLevel, isKnown, Stable, Ranking}
+use Rattle.waits.specs.declared.hint.RankedHint.{RankedHint}
+use Rattle.ranking.specs.Ranked.{goesBefore, inserted, rankedOnto, ranked, sorted, those, Permuted}
+use Rattle.ranking.specs.Ranked.{areLevel, isKnown, Stable, Ranking}
 use Rattle.ranking.proofs.Before.{before-self}
 use Rattle.ranking.proofs.Those.{Each, first, rest, with-one, each, in-front, count-first, each-permuted}
 use Rattle.ranking.proofs.Sorted.{sorted-rest, not-before-first}

@@ -11,7 +11,7 @@ use borrow.Author.Tests.{not-false}
 use lib.ListN.{length}
 use Rattle.lists.specs.Listed.{every}
 use Rattle.numbers.proofs.Exact.{both}
-use Rattle.ranking.specs.declared.order.RankedHint.{RankedHint}
+use Rattle.waits.specs.declared.hint.RankedHint.{RankedHint}
 use Rattle.ranking.specs.Ranked.{those, Permuted}
 
 -- Whatever is in the list passes the test.

@@ -1,53 +1,54 @@
--- Ranked hints, 64 at most: one more at its place or behind the others (RULES 11.6 to 11.9).
+-- Ranked hints: an answer, its words, and one hint more at its place (RULES 11.6 to 11.9).
 -- Assumes nothing.
-use Prim.Native.Nat.{ℕ, _+_}
-use mathlib.Core.Bool.{Bool, false, cond}
+use Prim.Native.Nat.{ℕ, _+_, _-_, _*_}
+use mathlib.Core.Path.{_≡_}
+use mathlib.Core.Bool.{cond}
 use mathlib.Core.List.{List, [], _∷_, _++_}
-use lib.Dec.{leb, ltb}
-use lib.IntN.{pos}
-use lib.ListN.{take, drop, set, replicate}
-use Rattle.refusals.specs.Names.{FULL}
-use Rattle.floats.specs.Constants.{nought}
-use Rattle.waits.specs.Hints as W
-use Rattle.ranking.specs.Ranked.{goesBefore, inserted, sorted}
-use Rattle.ranking.specs.declared.order.RankedHint.{RankedHint}
-use Rattle.ranking.specs.declared.ranked_hints.RankedHints.{RankedHints}
+use lib.Dec.{ltb}
+use lib.ListN.{length, take, drop, replicate}
+use Rattle.waits.specs.Words.{countIn, hintsIn, allWords, laid}
+use Rattle.waits.specs.declared.hint.RankedHint.{RankedHint}
+use Rattle.waits.specs.declared.hint_list.Filled.{Filled}
+use Rattle.waits.specs.declared.hint_list.Filled.the-variants as F
+use Rattle.ranking.specs.Ranked.{goesBefore}
 
--- What stands where there is no hint.
-abbrev pub blankRanked : RankedHint
-blankRanked = record { contour = record { 0 = pos 0 }; reach = nought; hint = W.blankHint }
+-- Hints in order, or a refusal's number alone (RULES 4.14).
+pub data Ranked : Type 0 where
+  Of : List RankedHint → Ranked
+  Refused : ℕ → Ranked
 
--- A refusal holds its number alone (RULES 4.14).
-unfoldable pub rankedRefused : ℕ → RankedHints
-rankedRefused number = record { refused = number; count = 0; all = replicate 64 blankRanked }
+-- The hints of an answer; a refusal has none.
+abbrev pub rankedIn : Ranked → List RankedHint
+rankedIn (Of l) = l
+rankedIn (Refused number) = []
 
--- No hints yet.
-unfoldable pub noRanked : RankedHints
-noRanked = rankedRefused 0
+-- How many there are, or the refusal's number.
+unfoldable pub filledBy : Ranked → Filled
+filledBy (Of l) = F.Of (length l)
+filledBy (Refused number) = F.Refused number
 
--- The hints that are there, in order.
-unfoldable pub rankedHeld : RankedHints → List RankedHint
-rankedHeld list = take (list .count) (list .all)
+-- The list of words that an answer leaves: the count, the hints and zero behind them, and zero throughout on a refusal
+-- (RULES 4.14, 11.8).
+unfoldable pub rankedWords : Ranked → List ℕ
+rankedWords (Of l) = length l ∷ (allWords l ++ replicate (384 - 6 * length l) 0)
+rankedWords (Refused number) = replicate 385 0
 
--- One hint more behind the others; 10 for a 65th.
-unfoldable pub withLast : RankedHints → RankedHint → RankedHints
-withLast list h =
-    cond (leb 64 (list .count))
-    (rankedRefused FULL)
-    (record { refused = 0; count = list .count + 1; all = set (list .all) (list .count) h })
+-- What is handed back and left in the lent list, which reads as the answer's hints.
+pub record Ranks (answer : Ranked) (left : List ℕ) (r : Filled) : Type 0 where
+  pub filled : r ≡ filledBy answer
+  pub words : left ≡ rankedWords answer
+  pub held : hintsIn left ≡ rankedIn answer
 
--- One hint more at its place; 10 for a 65th.
-unfoldable pub withRanked : RankedHints → RankedHint → RankedHints
-withRanked list h =
-    cond (leb 64 (list .count))
-    (rankedRefused FULL)
-    (record { refused = 0; count = list .count + 1; all = inserted h (rankedHeld list) ++ drop (list .count + 1) (list .all) })
+-- ---- One hint more.
 
 -- How many stand in front of the place of h.
 unfoldable pub rankOf : RankedHint → List RankedHint → ℕ
 rankOf h [] = 0
 rankOf h (x ∷ l) = cond (goesBefore h x) 0 (rankOf h l + 1)
 
--- At most 64, and none goes before the one in front of it (RULES 11.10).
-unfoldable pub isRanked : RankedHints → Bool
-isRanked list = cond (ltb 64 (list .count)) false (sorted (rankedHeld list))
+-- The words with h at its place among the first n hints: those behind it move up by one, over the one at place n (RULES 11.7).
+unfoldable pub rankedInto : List ℕ → ℕ → RankedHint → List ℕ
+rankedInto words n h =
+    let l = take n (hintsIn words) in
+    let k = rankOf h l in
+    cond (ltb n (countIn words)) (laid words k (h ∷ drop k l)) words

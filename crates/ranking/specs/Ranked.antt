@@ -6,7 +6,7 @@ use mathlib.Core.List.{List, [], _∷_}
 use lib.ListN.{length}
 use lib.Signed.{ltZ}
 use lib.Ieee
-use Rattle.ranking.specs.declared.order.RankedHint.{RankedHint}
+use Rattle.waits.specs.declared.hint.RankedHint.{RankedHint}
 
 -- a goes before b: the smaller contour, and at equal contours the smaller reach (RULES 11.6).
 unfoldable pub goesBefore : RankedHint → RankedHint → Bool

@@ -1,15 +1,7 @@
-// A ranked hint, as `RankedHint` of the Rust, and which of two stands first (docs/RULES.md, 11.6 to 11.8).
-use numbers::time::Duration;
-use waits::hint::WaitHint;
+// Which of two ranked hints stands first (docs/RULES.md, 11.6 and 11.7).
+use waits::hint::RankedHint;
 ghost use mathlib.Core.Path.{_≡_};
 ghost use Rattle.ranking.specs.Ranked.{goesBefore};
-
-// A hint, how late the agent is that waits there, and how far along its line that is.
-pub struct RankedHint {
-    pub contour: Duration,
-    pub reach: f64,
-    pub hint: WaitHint,
-}
 
 // Whether a stands before b: its contour is smaller, or at the same contour its reach.
 pub fn goes_before(a: RankedHint, b: RankedHint) -> bool

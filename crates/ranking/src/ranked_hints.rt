@@ -1,142 +1,60 @@
-// Ranked hints, 64 at most (docs/RULES.md, 11.6 to 11.9).
+// Ranked hints in a lent list of words (docs/RULES.md, 11.6 to 11.10).
 use crate::order;
-use crate::order::RankedHint;
-use numbers::time::Duration;
-use numbers::time::TimePoint;
-use shapes::vector::Vector;
-use waits::hint::WaitHint;
+use waits::hint::RankedHint;
+use waits::hint_list;
 ghost use mathlib.Core.Path.{_≡_};
-ghost use Prim.Native.Nat.{_≤_};
-ghost use lib.ListN.{length, getD};
-ghost use Rattle.ranking.specs.Hints.{blankRanked, rankedHeld, rankedRefused, noRanked, withLast, withRanked, rankOf, isRanked};
+ghost use Prim.Native.Nat.{_<_};
+ghost use lib.ListN.{take};
+ghost use Rattle.waits.specs.Words.{countIn, hintsIn};
+ghost use Rattle.ranking.specs.Ranked.{sorted};
+ghost use Rattle.ranking.specs.Hints.{rankOf, rankedInto};
 
-// The first `count` of `all` are hints, where `refused` is 0; else it is the number of a refusal, and there are none.
-pub struct RankedHints {
-    pub refused: u64,
-    pub count: usize,
-    pub all: [RankedHint; 64],
+// How many of the first n hints stand in front of the place of one more.
+fn place_of(hints: &[u64; 385], n: usize, h: RankedHint) -> usize
+    requires { ⌜ n < countIn (now hints) ⌝ }
+    ensures { λ r. ⌜ r ≡ rankOf h (take n (hintsIn (now (hints .entry)))) ⌝ }
+{
+    let mut i = 0;
+    while i < n {
+        if order::goes_before(h, hint_list::hint_at(hints, i)) {
+            return i;
+        }
+        i += 1;
+    }
+    n
 }
 
-impl RankedHints {
-    // How many of the first 64 hints stand before the place of one more.
-    fn place(self, hint: RankedHint) -> usize
-        requires { ⌜ self .count ≤ 64 ⌝ }
-        ensures { λ r. ⌜ r ≡ rankOf hint (rankedHeld self) ⌝ }
-    {
-        let n = self.count;
-        let mut i = 0;
-        while i < n {
-            let x = self.all[i];
-            if order::goes_before(hint, x) {
-                return i;
-            }
-            i += 1;
-        }
-        i
+// Puts a hint at its place among the first n: those behind it move up by one, over the one that stood at place n. Where there is no
+// such place nothing changes.
+pub fn put_in_rank(hints: &mut [u64; 385], n: usize, h: RankedHint)
+    ensures { λ _. ⌜ now (hints .exit) ≡ rankedInto (now (hints .entry)) n h ⌝ }
+{
+    if hint_list::count_of(hints) <= n {
+        return;
     }
-
-    // A refusal: its number alone.
-    pub fn refused_by(number: u64) -> RankedHints
-        ensures { λ r. ⌜ r ≡ rankedRefused number ⌝ }
-    {
-        let blank = RankedHint {
-            contour: Duration(0),
-            reach: 0.0,
-            hint: WaitHint {
-                place: Vector { x: 0.0, y: 0.0 },
-                until: TimePoint(0),
-                obstacle: 0,
-            },
-        };
-        RankedHints {
-            refused: number,
-            count: 0,
-            all: [blank; 64],
-        }
+    let at = place_of(hints, n, h);
+    let mut j = n;
+    while at < j {
+        let x = hint_list::hint_at(hints, j - 1);
+        hint_list::put_hint(hints, j, x);
+        j -= 1;
     }
+    hint_list::put_hint(hints, j, h);
+}
 
-    pub fn none() -> RankedHints
-        ensures { λ r. ⌜ r ≡ noRanked ⌝ }
-    {
-        RankedHints::refused_by(0)
-    }
-
-    // How many hints there are.
-    pub fn len(self) -> usize
-        ensures { λ r. ⌜ r ≡ length (rankedHeld self) ⌝ }
-    {
-        let n = self.count;
-        if 64 < n {
-            return 64;
-        }
-        n
-    }
-
-    // Hint i, and a blank one where there is none.
-    pub fn at(self, i: usize) -> RankedHint
-        ensures { λ r. ⌜ r ≡ getD (rankedHeld self) i blankRanked ⌝ }
-    {
-        if i < self.len() {
-            return self.all[i];
-        }
-        let empty = RankedHints::none();
-        empty.all[0]
-    }
-
-    // One hint more behind the others; a 65th is refused 10.
-    pub fn with_last(self, hint: RankedHint) -> RankedHints
-        ensures { λ r. ⌜ r ≡ withLast self hint ⌝ }
-    {
-        let n = self.count;
-        if 64 <= n {
-            return RankedHints::refused_by(refusals::FULL);
-        }
-        let mut next = self;
-        next.all[n] = hint;
-        next.count = n + 1;
-        next.refused = 0;
-        next
-    }
-
-    // One hint more at its place; a 65th is refused 10.
-    pub fn with_ranked(self, hint: RankedHint) -> RankedHints
-        ensures { λ r. ⌜ r ≡ withRanked self hint ⌝ }
-    {
-        let n = self.count;
-        if 64 <= n {
-            return RankedHints::refused_by(refusals::FULL);
-        }
-        let at = self.place(hint);
-        let mut next = self;
-        let mut j = n;
-        while at < j {
-            let x = next.all[j - 1];
-            next.all[j] = x;
-            j -= 1;
-        }
-        next.all[j] = hint;
-        next.count = n + 1;
-        next.refused = 0;
-        next
-    }
-
-    // Whether no hint goes before the one in front of it.
-    pub fn is_ranked(self) -> bool
-        ensures { λ r. ⌜ r ≡ isRanked self ⌝ }
-    {
-        let n = self.count;
-        if 64 < n {
+// Whether no hint goes before the one in front of it.
+pub fn is_ranked(hints: &[u64; 385]) -> bool
+    ensures { λ r. ⌜ r ≡ sorted (hintsIn (now (hints .entry))) ⌝ }
+{
+    let n = hint_list::count_of(hints);
+    let mut i = 0;
+    while i + 1 < n {
+        let x = hint_list::hint_at(hints, i);
+        let y = hint_list::hint_at(hints, i + 1);
+        if order::goes_before(y, x) {
             return false;
         }
-        let mut i = 0;
-        while i + 1 < n {
-            let x = self.all[i];
-            let y = self.all[i + 1];
-            if order::goes_before(y, x) {
-                return false;
-            }
-            i += 1;
-        }
-        true
+        i += 1;
     }
+    true
 }

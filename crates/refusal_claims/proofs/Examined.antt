@@ -45,11 +45,10 @@ module _ (N : ℕ → Type 0) (one : N 1) (two : N 2) where
   numbers-find true e h = h
   numbers-find false e h = numbered-finds e
 
-  pub lent-finds : (refused : ℕ) (e : Examined) → Finds N e → Finds N (withLent refused e)
+  pub lent-finds : (number : ℕ) (e : Examined) → Finds N (withLent number e)
   unfolding withLent
-  lent-finds refused e h = by (eqb refused 0) (eqb refused 2)
+  lent-finds number e = by (eqb number 2)
     where
-      by : (none count : Bool) → Finds N (cond none e (cond count (Refused 2) (numbered e)))
-      by true count = h
-      by false true = two
-      by false false = numbered-finds e
+      by : (count : Bool) → Finds N (cond count (Refused 2) (numbered e))
+      by true = two
+      by false = numbered-finds e

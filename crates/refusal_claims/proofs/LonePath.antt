@@ -16,10 +16,10 @@ use Rattle.obstacles.specs.Examined.{agentExamined}
 use Rattle.obstacles.specs.Lent.{Lent, obstaclesOf}
 use Rattle.obstacles.specs.Obstacle.{Obstacle}
 use Rattle.obstacles.proofs.Accepted.{accepted}
-use Rattle.ranking.specs.Hints.{rankedHeld}
+use Rattle.ranking.specs.Hints as R
+use Rattle.ranking.specs.Hints.{Ranked}
 use Rattle.lending.specs.Lent.{lentHints}
-use Rattle.ranking.specs.declared.order.RankedHint.{RankedHint}
-use Rattle.ranking.specs.declared.ranked_hints.RankedHints.{RankedHints}
+use Rattle.waits.specs.declared.hint.RankedHint.{RankedHint}
 use Rattle.hints.specs.Contour.{scaleOf}
 use Rattle.hints.specs.declared.contour.Scaling.{Scaling}
 use Rattle.hints.specs.declared.contour.Scaling.the-variants as L
@@ -28,7 +28,7 @@ use Rattle.arrival_paths.specs.Path.{Refused}
 use Rattle.asking.specs.Beside.{isBudget, withNumbers, withLent}
 use Rattle.arrival_paths.specs.Asked.{lonePath, askedPath}
 use Rattle.plans.specs.Plan.{tripOf}
-use Rattle.asking.proofs.Fine.{numbers-fine, lent-fine}
+use Rattle.asking.proofs.Fine.{numbers-fine, lent-not-fine}
 use Rattle.refusal_claims.specs.Numbers.{PathRefusal, Number, Shape, Backward, NoLine}
 use Rattle.refusal_claims.proofs.Examined.{Finds, agent-finds, numbers-find, lent-finds}
 use Rattle.refusal_claims.proofs.Path.{Seeks, seeks}
@@ -50,32 +50,37 @@ module _ (p : CircularProfile) (agent : Leg) (arrival : TimePoint) (budget : ℕ
   -- The input, then 4 for a short call (RULES 4.13).
   asked-seeks : (words : List ℕ) → Seeks (askedPath p agent arrival budget words lent)
   unfolding askedPath
-  asked-seeks words =
-      by input refl
-      (lent-finds PathRefusal Number Shape (list .refused) (withNumbers beside own)
-      (numbers-find PathRefusal Number Shape beside own (agent-finds PathRefusal Number Shape Backward p agent lent)))
+  asked-seeks words = by-hints (lentHints (length (lent .starts)) words) refl
     where
-      list : RankedHints
-      list = lentHints (length (lent .starts)) words
-
       beside : Bool
       beside = isBudget budget && isTime arrival
 
       own : Examined
       own = agentExamined p agent lent
 
-      input : Examined
-      input = withLent (list .refused) (withNumbers beside own)
+      lasting : (hints : List RankedHint) (brief : Bool) → own ≡ X.Fine →
+          Seeks (cond brief (Refused 4) (lonePath p agent arrival budget hints (obstaclesOf lent)))
+      lasting hints true fine = NoLine
+      lasting hints false fine = lone-seeks hints fine
 
-      lasting : (brief : Bool) → own ≡ X.Fine →
-          Seeks (cond brief (Refused 4) (lonePath p agent arrival budget (rankedHeld list) (obstaclesOf lent)))
-      lasting true fine = NoLine
-      lasting false fine = lone-seeks (rankedHeld list) fine
+      by-input : (hints : List RankedHint) → lentHints (length (lent .starts)) words ≡ R.Of hints →
+          (x : Examined) → withNumbers beside own ≡ x → Finds PathRefusal x → Seeks (askedPath p agent arrival budget words lent)
+      by-input hints e X.Fine fine h = rw (e, fine) (lasting hints (isBrief agent) (numbers-fine beside own fine))
+      by-input hints e (X.Refused n) refused h = rw (e, refused) h
 
-      by : (x : Examined) → input ≡ x → Finds PathRefusal x → Seeks (askedPath p agent arrival budget words lent)
-      by X.Fine e h =
-          rw e (lasting (isBrief agent) (numbers-fine beside own (lent-fine (list .refused) (withNumbers beside own) e)))
-      by (X.Refused n) e h = rw e h
+      by-refusal : (number : ℕ) → lentHints (length (lent .starts)) words ≡ R.Refused number →
+          (x : Examined) → withLent number (withNumbers beside own) ≡ x → Finds PathRefusal x →
+          Seeks (askedPath p agent arrival budget words lent)
+      by-refusal number e X.Fine fine h = absurd (lent-not-fine number (withNumbers beside own) fine)
+      by-refusal number e (X.Refused n) refused h = rw (e, refused) h
+
+      by-hints : (list : Ranked) → lentHints (length (lent .starts)) words ≡ list → Seeks (askedPath p agent arrival budget words lent)
+      by-hints (R.Of hints) e =
+          by-input hints e (withNumbers beside own) refl
+          (numbers-find PathRefusal Number Shape beside own (agent-finds PathRefusal Number Shape Backward p agent lent))
+      by-hints (R.Refused number) e =
+          by-refusal number e (withLent number (withNumbers beside own)) refl
+          (lent-finds PathRefusal Number Shape number (withNumbers beside own))
 
   pub path-refused : (words : List ℕ) {n : ℕ} → askedPath p agent arrival budget words lent ≡ Refused n → PathRefusal n
   path-refused words e = rw e at (asked-seeks words)

@@ -16,10 +16,10 @@ use Rattle.shapes.specs.Leg.{placeOf}
 use Rattle.shapes.specs.declared.waypoint.Waypoint.{Waypoint}
 use Rattle.obstacles.specs.Obstacle.{Obstacle}
 use Rattle.waits.specs.declared.hint.WaitHint.{WaitHint}
-use Rattle.ranking.specs.declared.order.RankedHint.{RankedHint}
+use Rattle.waits.specs.declared.hint.RankedHint.{RankedHint}
 use Rattle.chains.specs.Answer.{Chained, Way, NoWay}
 use Rattle.chains.specs.Answer as A
-use Rattle.chains.specs.Handed.{chainOf, linksIn, firstIndex, answered}
+use Rattle.chains.specs.Handed.{firstIndex}
 use Rattle.chains.specs.declared.trial.Trial.{Trial}
 use Rattle.chains.specs.declared.trial.Trial.the-variants as T
 use Rattle.choosing.specs.Roots.{goalContour, firstRoot}
@@ -122,9 +122,9 @@ module _ (trip : Trip) (hints : List RankedHint) where
       let stops = hintsAt hints links in
       pops-seek pops (built trip (trip .leg .start) unheld stops) (builds trip (trip .leg .start) unheld stops)
 
-  taken-seeks : (a : Chained) → Searches PathRefusal a → Seeks (taken trip hints (answered a))
+  taken-seeks : (a : Chained) → Searches PathRefusal a → Seeks (taken trip hints a)
   unfolding taken
-  taken-seeks (Way l p) h = along-seeks (linksIn (chainOf l)) p
+  taken-seeks (Way l p) h = along-seeks l p
   taken-seeks (NoWay p) h = tt
   taken-seeks (A.Refused n p) h = h
 
@@ -134,7 +134,7 @@ module _ (trip : Trip) (os : List Obstacle) (hints : List RankedHint) (budget : 
   hints-seek = by (eqb (length hints) 0) (goalContour trip arrival) (contours trip arrival)
     where
       search : Duration → Sought
-      search goal = taken trip hints (answered (chainFrom trip os hints budget (firstIndex (firstRoot goal hints))))
+      search goal = taken trip hints (chainFrom trip os hints budget (firstIndex (firstRoot goal hints)))
 
       by : (none : Bool) (c : Contour) → Contours c → Seeks (cond none (Missing 0) (contoured c search))
       by true c h = tt

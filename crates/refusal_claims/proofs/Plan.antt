@@ -1,12 +1,9 @@
 -- A whole plan is refused by its input's faults, as hints alone, arrival times alone and paths are (RULES 5.5 to 5.7).
 -- Assumes nothing.
 use Prim.Native.Nat.{ℕ}
-use mathlib.Core.Path.{_≡_, refl}
-use mathlib.Core.Logic.{_≢_}
+use mathlib.Core.Path.{_≡_, refl, _∙_}
 use mathlib.Core.Bool.{Bool, true, false, cond}
 use mathlib.Core.List.{List, [], _∷_}
-use borrow.Author.Tests.{eqb-false}
-use lib.Dec.{eqb}
 use lib.ListN.{length}
 use Rattle.numbers.specs.declared.time.TimePoint.{TimePoint}
 use Rattle.shapes.specs.Box.{boxOfLeg}
@@ -19,9 +16,9 @@ use Rattle.obstacles.specs.Examined.{agentExamined}
 use Rattle.obstacles.specs.Lent.{Lent, obstaclesOf}
 use Rattle.obstacles.specs.Obstacle.{Obstacle}
 use Rattle.obstacles.proofs.Accepted.{accepted}
-use Rattle.ranking.specs.Hints.{rankedHeld}
-use Rattle.ranking.specs.declared.order.RankedHint.{RankedHint}
-use Rattle.ranking.specs.declared.ranked_hints.RankedHints.{RankedHints}
+use Rattle.ranking.specs.Hints as R
+use Rattle.ranking.specs.Hints.{Ranked}
+use Rattle.waits.specs.declared.hint.RankedHint.{RankedHint}
 use Rattle.hints.specs.Contour.{scaleOf, rankedHints}
 use Rattle.hints.specs.declared.contour.Scale.{Scale}
 use Rattle.hints.specs.declared.contour.Scaling.{Scaling}
@@ -37,7 +34,7 @@ use Rattle.arrival_paths.specs.Path as P
 use Rattle.arrival_paths.specs.Path.{pathFor}
 use Rattle.asking.specs.Beside.{isBudget, withNumbers}
 use Rattle.plans.specs.Asked.{askedPlan}
-use Rattle.plans.specs.Plan.{Path, Paths, Of, first, sought, pathsFor, Plan, Planned, Refused, withScale, timed, planned, tripOf}
+use Rattle.plans.specs.Plan.{Path, Paths, Of, first, sought, pathsFor, Plan, Planned, Refused, withScale, hinted, timed, planned, tripOf}
 use Rattle.plans.specs.Plan.{pathsPlanned, timesPlanned, hintsPlanned, longPlan, shortPlan, planOf}
 use Rattle.asking.proofs.Fine.{numbers-fine}
 use Rattle.path_claims.proofs.Calls.{hints-alone, arrivals-alone}
@@ -132,18 +129,14 @@ module _ (p : CircularProfile) (agent : Leg) (budget : ℕ) (lent : Lent) (fine 
 
   hints-plan : isBrief agent ≡ false → (scale : Scale) → Plans (hintsPlanned (tripOf p agent scale) os os budget)
   unfolding hintsPlanned
-  hints-plan lasts scale = by (eqb (own .refused) 0) refl
+  hints-plan lasts scale = by own refl
     where
-      own : RankedHints
+      own : Ranked
       own = rankedHints p agent (boxOfLeg (p .footprint) agent) os
 
-      refused : own .refused ≢ 0 → HintsRefusal (own .refused)
-      refused = rw (hints-alone p agent lent fine lasts) at (hints-refused p agent lent)
-
-      by : (none : Bool) → eqb (own .refused) 0 ≡ none →
-          Plans (cond none (timesPlanned (tripOf p agent scale) os os (rankedHeld own) budget) (Refused (own .refused)))
-      by true e = times-plan scale (rankedHeld own)
-      by false e = as-hints (refused (eqb-false (own .refused) 0 e))
+      by : (given : Ranked) → own ≡ given → Plans (hinted given (λ hints. timesPlanned (tripOf p agent scale) os os hints budget))
+      by (R.Of hints) e = times-plan scale hints
+      by (R.Refused n) e = as-hints (hints-refused p agent lent (hints-alone p agent lent fine lasts ∙ e))
 
   long-plan : isBrief agent ≡ false → Plans (longPlan p agent budget os)
   unfolding longPlan

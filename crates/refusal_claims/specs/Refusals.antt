@@ -24,6 +24,7 @@ use Rattle.obstacles.specs.Lent.{Lent}
 use Rattle.examining.specs.Asked.{askedHull}
 use Rattle.examining.specs.declared.calls.Hull.the-variants as H
 use Rattle.segments.specs.Asked.{askedSegment}
+use Rattle.ranking.specs.Hints as R
 use Rattle.hints.specs.Asked.{askedHints}
 use Rattle.arrival_paths.specs.Path as S
 use Rattle.arrival_paths.specs.Asked.{askedPath}
@@ -59,7 +60,7 @@ pub record Fitting (plan : Plan) (room actionRoom : ℕ) : Type 0 where
 -- The calls on an agent and a table.
 pub record OfAgent (p : CircularProfile) (agent : Leg) (lent : Lent) : Type 0 where
   pub segment : {n : ℕ} → askedSegment p agent lent ≡ J.Refused n → SegmentRefusal n
-  pub hints : askedHints p agent lent .refused ≢ 0 → HintsRefusal (askedHints p agent lent .refused)
+  pub hints : {n : ℕ} → askedHints p agent lent ≡ R.Refused n → HintsRefusal n
   pub path : {n : ℕ} (arrival : TimePoint) (budget : ℕ) (words : List ℕ) →
       askedPath p agent arrival budget words lent ≡ S.Refused n → PathRefusal n
   pub plan : {n : ℕ} (budget : ℕ) → askedPlan p agent budget lent ≡ Refused n → PlanRefusal n

@@ -1,2 +1,2 @@
-mod Going
+mod Stored
 pub mod Bound

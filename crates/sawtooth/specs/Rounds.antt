@@ -13,9 +13,8 @@ use Rattle.numbers.specs.declared.time.Instant.the-variants as I
 use Rattle.shapes.specs.Vector.{vectorSum, scaled}
 use Rattle.courses.specs.declared.course.Course.{Course}
 use Rattle.courses.specs.declared.course.Run.{Run}
-use Rattle.waits.specs.Hints.{refusedBy, withHint, after}
+use Rattle.waits.specs.Hints.{Hints, Refused, oneHint, foundThen}
 use Rattle.waits.specs.declared.hint.WaitHint.{WaitHint}
-use Rattle.waits.specs.declared.wait_hints.WaitHints.{WaitHints}
 use Rattle.chasing.specs.declared.chase.Chase.{Chase}
 use Rattle.sawtooth.specs.declared.rounds.Stride.{Stride}
 use Rattle.sawtooth.specs.declared.rounds.Round.{Round}
@@ -55,19 +54,19 @@ roundOf agent leg chase obstacle s t = by (strideOf agent chase s t)
     by : Stride → Round
     by to = stopped to (instantOfSeconds (to .t))
 
--- After a round: its hint is stored, and unless it was the last the rounds go on from where it ended.
-abbrev pub afterRound : Round → WaitHints → (WaitHints → Float → Float → WaitHints) → WaitHints
-afterRound (Next h s t) hints go = after (withHint hints h) (λ found. go found s t)
-afterRound (Last h) hints go = withHint hints h
-afterRound Strayed hints go = refusedBy STRAYED
+-- After a round behind n hints: its hint is stored, and unless it was the last the rounds go on from where it ended.
+abbrev pub afterRound : ℕ → Round → (ℕ → Float → Float → Hints) → Hints
+afterRound n (Next h s t) go = foundThen n (oneHint n h) (λ m. go m s t)
+afterRound n (Last h) go = oneHint n h
+afterRound n Strayed go = Refused STRAYED
 
--- The rounds from s metres and t seconds on, with room for so many hints more: each stores a hint or is refused, and with no room
--- left it is refused 10 (RULES 10.23).
-unfoldable pub roundsIn : ℕ → Course → Run → Chase → ℕ → WaitHints → Float → Float → WaitHints
-roundsIn zero agent leg chase obstacle hints s t =
-    afterRound (roundOf agent leg chase obstacle s t) hints (λ found s1 t1. refusedBy FULL)
-roundsIn (suc room) agent leg chase obstacle hints s t =
-    afterRound (roundOf agent leg chase obstacle s t) hints (roundsIn room agent leg chase obstacle)
+-- The rounds from s metres and t seconds on behind n hints, with room for so many more: each stores a hint or is refused, and with
+-- no room left it is refused 10 (RULES 10.23).
+unfoldable pub roundsIn : ℕ → Course → Run → Chase → ℕ → ℕ → Float → Float → Hints
+roundsIn zero agent leg chase obstacle n s t =
+    afterRound n (roundOf agent leg chase obstacle s t) (λ m s1 t1. Refused FULL)
+roundsIn (suc room) agent leg chase obstacle n s t =
+    afterRound n (roundOf agent leg chase obstacle s t) (roundsIn room agent leg chase obstacle)
 
-abbrev pub roundsFrom : Course → Run → Chase → ℕ → WaitHints → Float → Float → WaitHints
-roundsFrom agent leg chase obstacle hints s t = roundsIn (64 - hints .count) agent leg chase obstacle hints s t
+abbrev pub roundsFrom : Course → Run → Chase → ℕ → ℕ → Float → Float → Hints
+roundsFrom agent leg chase obstacle n s t = roundsIn (64 - n) agent leg chase obstacle n s t

@@ -5,8 +5,10 @@ use courses::course::Run;
 use numbers::time::Instant;
 use numbers::time::TimePoint;
 use waits::hint::WaitHint;
-use waits::wait_hints::WaitHints;
+use waits::hint_list;
+use waits::hint_list::Filled;
 ghost use mathlib.Core.Path.{_≡_};
+ghost use Rattle.waits.specs.Adding.{Added};
 ghost use Rattle.sawtooth.specs.Rounds.{strideOf, roundOf, roundsFrom};
 
 // Where a round ends: how far along the line, at how many seconds, and whether that is the end of the line.
@@ -70,31 +72,33 @@ fn round_from(agent: Course, leg: Run, chase: Chase, obstacle: usize, s: f64, t:
     Round::Next(hint, to.s, to.t)
 }
 
-// The rounds from s metres and t seconds on. They end, since each stores a hint or is refused.
+// The rounds from s metres and t seconds on, behind n hints. They end, since each stores a hint or is refused.
 pub fn rounds(
     agent: Course,
     leg: Run,
     chase: Chase,
     obstacle: usize,
-    hints: WaitHints,
     s: f64,
     t: f64,
-) -> WaitHints
-    ensures { λ r. ⌜ r ≡ roundsFrom agent leg chase obstacle hints s t ⌝ }
+    hints: &mut [u64; 385],
+    n: usize,
+) -> Filled
+    ensures { λ r. ⌜ Added (roundsFrom agent leg chase obstacle n s t) n (now (hints .entry)) (now (hints .exit)) r ⌝ }
 {
-    let mut found = hints;
+    let mut m = n;
     let mut s1 = s;
     let mut t1 = t;
     loop {
         let turn = round_from(agent, leg, chase, obstacle, s1, t1);
         match turn {
-            Round::Strayed => return WaitHints::refused_by(refusals::STRAYED),
-            Round::Last(hint) => return found.with_hint(hint),
+            Round::Strayed => return hint_list::refuse(hints, refusals::STRAYED, m),
+            Round::Last(hint) => return hint_list::with_hint(hints, m, hint),
             Round::Next(hint, s2, t2) => {
-                found = found.with_hint(hint);
-                if found.refused != 0 {
-                    return found;
-                }
+                let filled = hint_list::with_hint(hints, m, hint);
+                let Filled::Of(count) = filled else {
+                    return filled;
+                };
+                m = count;
                 s1 = s2;
                 t1 = t2;
             }

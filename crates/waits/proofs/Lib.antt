@@ -1,2 +1,4 @@
-pub mod Storing
+pub mod Reading
+pub mod Added
 pub mod Sound
+pub mod Words

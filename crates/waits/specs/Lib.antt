@@ -1,2 +1,4 @@
 pub mod Hint
 pub mod Hints
+pub mod Words
+pub mod Adding

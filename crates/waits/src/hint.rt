@@ -1,5 +1,7 @@
-// A hint, as `WaitHint` of the Rust, and what a part of the search for hints answers (docs/RULES.md, 10.40).
+// A hint, as `WaitHint` of the Rust, with its rank, as `RankedHint`, and what a part of the search for hints answers
+// (docs/RULES.md, 10.40 and 11.8).
 use floats::comparison;
+use numbers::time::Duration;
 use numbers::time::TimePoint;
 use shapes::vector::Vector;
 ghost use mathlib.Core.Path.{_≡_};
@@ -10,6 +12,13 @@ pub struct WaitHint {
     pub place: Vector,
     pub until: TimePoint,
     pub obstacle: usize,
+}
+
+// A hint, how late the agent is that waits there, and how far along its line that is.
+pub struct RankedHint {
+    pub contour: Duration,
+    pub reach: f64,
+    pub hint: WaitHint,
 }
 
 // Where to wait and until when, that there is nothing to wait for, or a refusal and its number.

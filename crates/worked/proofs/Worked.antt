@@ -18,39 +18,37 @@ use Rattle.courses.specs.Norm.{normOf, directionOf}
 use Rattle.lines.specs.NearLine.{acrossQuadratic, outlasting, pastEnd, spellOf, nearLine}
 use Rattle.lines.specs.Stationary.{stationaryProximity}
 use Rattle.waits.specs.Hint.{isPlaced}
-use Rattle.waits.specs.Hints as W
+use Rattle.waits.specs.Hints.{oneHint, oneWait, foundThen}
 use Rattle.waiting.specs.Crossing.{beforeCrossing, besideLine, crossingWait}
 use Rattle.waiting.specs.Parts.{agentAfter}
 use Rattle.waiting.specs.Standing.{firstBegin, nearEnds, standingWait}
 use Rattle.waiting.specs.Oncoming.{oncomingWait}
 use Rattle.chasing.specs.Chase.{firstSeen, chaseOf, openingOf}
 use Rattle.sawtooth.specs.Rounds.{strideOf, roundOf, roundsIn}
-use Rattle.following.specs.Follow.{withStop, opened, followed, following}
-use Rattle.ranking.specs.Hints as R
+use Rattle.following.specs.Follow.{stopHint, opened, isFollowed, followHints}
 use Rattle.ranking.specs.Ranked.{goesBefore, inserted}
 use Rattle.obstacles.specs.Obstacle.{legsOf, widened, boxOfTrajectory}
 use Rattle.obstacles.specs.Lent.{waypointsOf, boxOf, obstaclesWith, obstaclesOf}
 use Rattle.obstacles.specs.Examined.{tiles, isLaid, isTrajectory, legsInAll, isFew, isShaped, isAllowed, areAllowed}
 use Rattle.obstacles.specs.Examined.{agentExamined}
-use Rattle.finding.specs.LegHints.{partOf, withPart, withLeg}
-use Rattle.finding.specs.Walk.{gapsOf, nearLeg, withLegs, withObstacle, withObstacles, hintsOf}
+use Rattle.finding.specs.LegHints.{partOf, partHints, legHints}
+use Rattle.finding.specs.Walk.{gapsOf, otherOf, nearLeg, nearLegs, nearObstacle, nearObstacles, hintsOf}
 use Rattle.hints.specs.Asked.{askedHints}
-use Rattle.hints.specs.Contour.{scaleOf, contourOf, gradeOf, gradedOnto, rankedHints}
+use Rattle.hints.specs.Contour.{scaleOf, contourOf, gradeOf, gradedOnto, measuredBy, rankedHints}
 use Rattle.worked.specs.Worked.{Worked}
 
 pub worked : Worked
 unfolding askedHints agentExamined isShaped isLaid tiles listed every isFew legsInAll isTrajectory areAllowed isAllowed
     isProfile isRadius isBetween isLeg isWaypoint isTime isCoordinate isLimit isBackward isRising isBrief obstaclesOf
     obstaclesWith waypointsOf boxOf boxOfTrajectory widened legsOf criticalDistanceSquared criticalDistance followDistance
-    largerOf smallerOf boxOfPoint incorporating inflated boxOfLeg overlap placeOf vectorSum vectorDifference scaled divided dotOf
-    runOf courseOf acrossQuadratic outlasting pastEnd spellOf nearLine normOf directionOf stationaryProximity
-    W.refusedBy W.noHints W.held W.isGoing W.withHint W.withWait W.after isPlaced crossingWait besideLine beforeCrossing
-    agentAfter standingWait firstBegin nearEnds oncomingWait firstSeen chaseOf openingOf strideOf roundOf roundsIn withStop
-    opened followed following hintsOf withObstacles withObstacle withLegs nearLeg gapsOf withLeg withPart partOf
-    rankedHints gradedOnto gradeOf contourOf scaleOf R.rankedRefused R.noRanked R.rankedHeld R.withRanked goesBefore inserted
-    rootOf leastUnits rootPattern wholeRoot earlierOf spanBetween spanSum isExact secondsOf instantOfSeconds
-    instantAfterSeconds spanOfSeconds instantAfter Ieee.ofBits Ieee.ofInt Ieee.add Ieee.sub Ieee.mul Ieee.div Ieee.neg
-    Ieee.le Ieee.lt Ieee.toSigned
+    largerOf smallerOf boxOfPoint incorporating inflated boxOfLeg overlap placeOf vectorSum vectorDifference scaled divided
+    dotOf runOf courseOf acrossQuadratic outlasting pastEnd spellOf nearLine normOf directionOf stationaryProximity oneHint
+    oneWait foundThen isPlaced crossingWait besideLine beforeCrossing agentAfter standingWait firstBegin nearEnds oncomingWait
+    firstSeen chaseOf openingOf strideOf roundOf roundsIn stopHint opened isFollowed followHints hintsOf nearObstacles
+    nearObstacle nearLegs nearLeg otherOf gapsOf legHints partHints partOf rankedHints measuredBy gradedOnto gradeOf contourOf
+    scaleOf goesBefore inserted rootOf leastUnits rootPattern wholeRoot earlierOf spanBetween spanSum isExact secondsOf
+    instantOfSeconds instantAfterSeconds spanOfSeconds instantAfter Ieee.ofBits Ieee.ofInt Ieee.add Ieee.sub Ieee.mul Ieee.div
+    Ieee.neg Ieee.le Ieee.lt Ieee.toSigned
 worked =
     record {
       following =

@@ -2,7 +2,7 @@
 -- leg (RULES, Words and signs).
 -- Assumes nothing.
 use Prim.Native.Nat.{ℕ, _+_, _*_}
-use mathlib.Core.List.{List, [], _∷_}
+use mathlib.Core.List.{[], _∷_}
 use lib.IntN.{pos, _-ℤ_}
 use lib.Ieee
 use lib.Ieee.{Float, binary64}
@@ -13,10 +13,10 @@ use Rattle.shapes.specs.Box.{boxOfLeg}
 use Rattle.shapes.specs.declared.profile.CircularProfile.{CircularProfile}
 use Rattle.shapes.specs.declared.waypoint.Leg.{Leg}
 use Rattle.shapes.specs.declared.waypoint.Waypoint.{Waypoint}
+use Rattle.waits.specs.Hints.{Hints}
 use Rattle.waits.specs.declared.hint.WaitHint.{WaitHint}
-use Rattle.waits.specs.declared.wait_hints.WaitHints.{WaitHints}
-use Rattle.ranking.specs.declared.order.RankedHint.{RankedHint}
-use Rattle.ranking.specs.declared.ranked_hints.RankedHints.{RankedHints}
+use Rattle.waits.specs.declared.hint.RankedHint.{RankedHint}
+use Rattle.ranking.specs.Hints.{Ranked}
 use Rattle.obstacles.specs.Lent.{Lent, lentOf, obstaclesOf}
 use Rattle.finding.specs.Walk.{hintsOf}
 use Rattle.hints.specs.Asked.{askedHints}
@@ -76,11 +76,11 @@ table p w v =
     (w .time .0 ∷ (v .time .0 ∷ [])) (w .x ∷ (v .x ∷ [])) (w .y ∷ (v .y ∷ []))
 
 -- What the walk of rule 10.3 finds for an agent on its leg and a cart of its kind that goes from one waypoint to another,
-abbrev pub walked : CircularProfile → Leg → Waypoint → Waypoint → WaitHints
+abbrev pub walked : CircularProfile → Leg → Waypoint → Waypoint → Hints
 walked p leg w v = hintsOf p leg (boxOfLeg (p .footprint) leg) (obstaclesOf (table p w v))
 
 -- and what the call for hints answers.
-abbrev pub asked : CircularProfile → Leg → Waypoint → Waypoint → RankedHints
+abbrev pub asked : CircularProfile → Leg → Waypoint → Waypoint → Ranked
 asked p leg w v = askedHints p leg (table p w v)
 
 -- ---- Answers.

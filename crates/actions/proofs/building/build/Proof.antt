@@ -5,36 +5,29 @@ use mathlib.Core.Path.{_≡_, ap, _∙_}
 use mathlib.Core.List.{List}
 use native.Mathlib.Omega.{arith}
 use borrow.Author.Needs.{needs}
-use lib.ListN.{length, length-map, length-take, getD}
-use lib.Seq.{getD-take}
-use Rattle.ranking.specs.Hints.{blankRanked, rankedHeld}
-use Rattle.ranking.specs.declared.order.RankedHint.{RankedHint}
-use Rattle.chains.specs.Handed.{linksIn}
+use lib.ListN.{length, getD}
+use Rattle.waits.specs.Words.{blankRanked, hintsIn}
+use Rattle.waits.specs.declared.hint.RankedHint.{RankedHint}
+use Rattle.chains.specs.Links.{linksIn}
+use Rattle.chains.proofs.Links.{few-links}
 use Rattle.actions.specs.Built.{Built}
 use Rattle.actions.specs.Laid.{PutActions}
 use Rattle.actions.specs.declared.building.Hold.{Hold}
 use Rattle.actions.proofs.Left.{put-placed}
-use Rattle.actions.proofs.Counted.{few-links}
 use Rattle.actions.proofs.Built.{Going, going-begin, going-long, going-end, going-refused, going-on}
 use Rattle.actions.proofs.building.build.Statement.{statement}
 use Rattle.actions.proofs.building.build.Tie as tie
 
 abbrev Inv-loop : tie.InvT-loop
-Inv-loop trip hints out₀ row chain n from₀ hold₀ at₀ k₀ out from hold at k =
-    Going trip (rankedHeld hints) (linksIn chain) out₀ at₀ from hold at k out
+Inv-loop trip hints chain out₀ row n from₀ hold₀ at₀ k₀ out from hold at k =
+    Going trip (hintsIn hints) (linksIn chain) out₀ at₀ from hold at k out
 
 abbrev μ-loop : tie.MeasureT-loop
-μ-loop trip hints out₀ row chain n from₀ hold₀ at₀ k₀ out from hold at k = n - k
+μ-loop trip hints chain out₀ row n from₀ hold₀ at₀ k₀ out from hold at k = n - k
 
--- There are 64 places,
-places : (c : tie.Start Inv-loop μ-loop) → length (c .args .t3 .all) ≡ 64
-places c = simp length-map at (c .good .1 .1 .0 .1 .1 .1 .0 .1 .0 .1)
-
--- so there are 64 links at most.
-few : (c : tie.After-len Inv-loop μ-loop) → c .len .result ≤ 64
-few c =
-    let s = c .before .before .before in
-    omega (arith, few-links (s .args .t3) (places s), c .len .ensures)
+-- There are 64 links at most.
+few : (c : tie.After-links-of Inv-loop μ-loop) → c .links-of .result ≤ 64
+few c = omega (arith, few-links (c .before .before .before .args .chain .now), c .links-of .ensures)
 
 -- The row that the loop is at leaves room for more.
 low : (c : tie.In-loop Inv-loop μ-loop) → c .before .loop .at ≤ 4611686018427387904
@@ -47,20 +40,14 @@ low c =
 -- The loop is at a link, and reads its hint.
 there : (c : tie.In-loop Inv-loop μ-loop) →
     let n = c .before .before .before .before .before in
-    c .before .loop .k < length (linksIn (n .before .before .before .args .t3))
-there c = omega (arith, c .before .before .before .before .before .len .ensures)
+    c .before .loop .k < length (linksIn (n .before .before .before .args .chain .now))
+there c = omega (arith, c .before .before .before .before .before .links-of .ensures)
 
-hint-here : (c : tie.After-at Inv-loop μ-loop) →
+hint-here : (c : tie.After-hint-at Inv-loop μ-loop) →
     let l = c .before .before .before in
     let a = l .before .before .before .before .before .before .before .args in
-    c .at .result .hint ≡ getD (rankedHeld (a .hints)) (getD (linksIn (a .t3)) (l .loop .k) 0) blankRanked .hint
-unfolding linksIn
-hint-here c =
-    let l = c .before .before .before in
-    let a = l .before .before .before .before .before .before .before .args in
-    let n = a .t3 .count in
-    let below : l .loop .k < n = omega (arith, there (c .before .before), length-take n (a .t3 .all)) in
-    ap (λ (h : RankedHint). h .hint) (c .at .ensures) ∙ rw (getD-take n (a .t3 .all) (l .loop .k) 0 below)
+    c .hint-at .result .hint ≡ getD (hintsIn (a .hints .now)) (getD (linksIn (a .chain .now)) (l .loop .k) 0) blankRanked .hint
+hint-here c = ap (λ (h : RankedHint). h .hint) (rw (c .before .link-at .ensures) at (c .hint-at .ensures))
 
 -- What is put from the place on is put from the row on.
 at-row : (c : tie.After-place Inv-loop μ-loop) {b : Built} {left : List ℕ} {r : Hold} →
@@ -70,8 +57,8 @@ at-row c put =
     let a = c .before .before .before .before .before .before .args in
     put-placed (a .row) (rw (c .place .ensures) at put)
 
-len-requires : tie.Need-len-requires Inv-loop μ-loop
-len-requires c κs = search needs
+links-of-requires : tie.Need-links-of-requires Inv-loop μ-loop
+links-of-requires c κs = search needs
 
 place-requires : tie.Need-place-requires Inv-loop μ-loop
 place-requires c κs = search needs
@@ -79,18 +66,13 @@ place-requires c κs = search needs
 loop-holds : tie.Need-loop-holds Inv-loop μ-loop
 loop-holds c =
     let a = c .before .before .before .before .before .before .args in
-    going-begin (a .trip) (rankedHeld (a .hints)) (linksIn (a .t3)) (a .out .now) (c .place .result)
+    going-begin (a .trip) (hintsIn (a .hints .now)) (linksIn (a .chain .now)) (a .out .now) (c .place .result)
 
-mul-at : tie.Need-mul-at Inv-loop μ-loop
-mul-at c = omega (arith, few (c .before .before .before .before .before))
+link-at-requires : tie.Need-link-at-requires Inv-loop μ-loop
+link-at-requires c κs = search needs
 
-element-copy-out-at : tie.Need-element-copy-out-at Inv-loop μ-loop
-element-copy-out-at c =
-    let n = c .before .before .before .before .before in
-    omega (arith, few n, places (n .before .before .before))
-
-at-requires : tie.Need-at-requires Inv-loop μ-loop
-at-requires c κs = search needs
+hint-at-requires : tie.Need-hint-at-requires Inv-loop μ-loop
+hint-at-requires c κs = search needs
 
 put-stop-requires : tie.Need-put-stop-requires Inv-loop μ-loop
 put-stop-requires c κs = low (c .before .before .before .before)
@@ -113,7 +95,7 @@ returns c =
     let h = put .before .before .before in
     let l = h .before .before .before in
     at-row (l .before)
-    (going-refused (l .loop .inv) (h .at .result .hint) (there (h .before .before)) (hint-here h) _ (c .enum-told .given .1)
+    (going-refused (l .loop .inv) (h .hint-at .result .hint) (there (h .before .before)) (hint-here h) _ (c .enum-told .given .1)
     (put .put-stop .ensures))
 
 waypoint-of-requires : tie.Need-waypoint-of-requires Inv-loop μ-loop
@@ -135,7 +117,7 @@ loop-again c =
     let l = h .before .before .before in
     let sum = c .before .before .stop .given in
     rw (c .waypoint-of .ensures)
-    (going-on (l .loop .inv) (h .at .result .hint) (there (h .before .before)) (hint-here h) (sum .0 .0) (sum .1)
+    (going-on (l .loop .inv) (h .hint-at .result .hint) (there (h .before .before)) (hint-here h) (sum .0 .0) (sum .1)
     (put .put-stop .ensures))
 
 put-end-requires : tie.Need-put-end-requires Inv-loop μ-loop
@@ -152,7 +134,7 @@ returns-2 c =
     let put = c .before .before in
     let l = put .before .before .before in
     let n = l .before .before .before .before in
-    at-row (l .before) (going-end (l .loop .inv) (omega (arith, n .len .ensures)) (put .put-end .ensures))
+    at-row (l .before) (going-end (l .loop .inv) (omega (arith, n .links-of .ensures)) (put .put-end .ensures))
 
 pub build-spec : {M : Type 1} → statement M
 build-spec =
@@ -160,12 +142,11 @@ build-spec =
     (tie.spec
     Inv-loop
     μ-loop
-    len-requires
+    links-of-requires
     place-requires
     loop-holds
-    mul-at
-    element-copy-out-at
-    at-requires
+    link-at-requires
+    hint-at-requires
     put-stop-requires
     enum-known-stop
     enum-told

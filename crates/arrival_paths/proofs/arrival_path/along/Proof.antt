@@ -1,21 +1,20 @@
 -- `arrival_paths::arrival_path::along` meets its contract: two actions for each hint and the last move, or a refusal.
 -- Assumes nothing.
 use Prim.Native.Nat.{_≤_}
-use mathlib.Core.Path.{_≡_}
 use native.Mathlib.Omega.{arith}
 use borrow.Author.Needs.{needs}
-use lib.ListN.{length, length-map}
-use Rattle.ranking.specs.Hints.{rankedHeld}
-use Rattle.chains.specs.Handed.{linksIn}
+use Rattle.waits.specs.Words.{hintsIn}
+use Rattle.chains.specs.Links.{linksIn}
+use Rattle.chains.proofs.Links.{few-links}
 use Rattle.actions.specs.Built.{Built, built, hintsAt, unheld}
-use Rattle.actions.proofs.Counted.{chain-counts, few-links}
+use Rattle.actions.proofs.Counted.{chain-counts}
 use Rattle.arrival_paths.specs.Path.{alongHints}
 use Rattle.arrival_paths.proofs.Left.{along-refused, along-found}
 use Rattle.arrival_paths.proofs.arrival_path.along.Statement.{statement}
 use Rattle.arrival_paths.proofs.arrival_path.along.Tie as tie
 
-len-requires : tie.Need-len-requires
-len-requires c κs = search needs
+links-of-requires : tie.Need-links-of-requires
+links-of-requires c κs = search needs
 
 build-requires : tie.Need-build-requires
 build-requires c κs = search needs
@@ -26,12 +25,9 @@ enum-known-hold c = search needs
 enum-known-hold-2 : tie.Need-enum-known-hold-2
 enum-known-hold-2 c = search needs
 
--- There are 64 places, so there are 64 links at most.
-few : (c : tie.After-len) → c .len .result ≤ 64
-few c =
-    let s = c .before .before in
-    let places : length (s .args .chain .all) ≡ 64 = simp length-map at (s .good .1 .1 .0 .1 .1 .1 .0 .1 .0 .1) in
-    omega (arith, few-links (s .args .chain) places, c .len .ensures)
+-- There are 64 links at most.
+few : (c : tie.After-links-of) → c .links-of .result ≤ 64
+few c = omega (arith, few-links (c .before .before .args .chain .now), c .links-of .ensures)
 
 mul-t14 : tie.Need-mul-t14
 mul-t14 c = omega (arith, few (c .before .before .before .before .before .before .before))
@@ -43,10 +39,10 @@ same-length : tie.Need-same-length
 same-length c = search needs
 
 -- What is built along the chain.
-abbrev along : (c : tie.After-len) → Built
+abbrev along : (c : tie.After-links-of) → Built
 along c =
     let a = c .before .before .args in
-    built (a .trip) (a .trip .leg .start) unheld (hintsAt (rankedHeld (a .hints)) (linksIn (a .chain)))
+    built (a .trip) (a .trip .leg .start) unheld (hintsAt (hintsIn (a .hints .now)) (linksIn (a .chain .now)))
 
 returns : tie.Need-returns
 unfolding alongHints
@@ -64,14 +60,14 @@ returns-2 c =
     let put = c .before .before .before .before .before in
     let n = put .before .before in
     let a = n .before .before .args in
-    let counts = rw (← n .len .ensures) at (chain-counts (a .trip) (rankedHeld (a .hints)) (linksIn (a .chain))) in
+    let counts = rw (← n .links-of .ensures) at (chain-counts (a .trip) (hintsIn (a .hints .now)) (linksIn (a .chain .now))) in
     along-found (along n) (a .pops) (put .build .ensures) _ _ counts (c .before .hold2 .given .1)
 
 pub along-spec : {M : Type 1} → statement M
 along-spec =
     tie.close
     (tie.spec
-    len-requires
+    links-of-requires
     build-requires
     enum-known-hold
     enum-known-hold-2

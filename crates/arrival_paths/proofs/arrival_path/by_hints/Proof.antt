@@ -1,27 +1,38 @@
 -- `arrival_paths::arrival_path::by_hints` meets its contract: none without hints, else what the search from its root comes to.
 -- Assumes nothing.
+use Prim.Native.Nat.{_≤_}
 use mathlib.Core.Path.{_≡_, sym, _∙_}
+use native.Mathlib.Omega.{arith}
 use borrow.Author.Tests.{eq-eqb, ne-eqb}
 use borrow.Author.Needs.{needs}
 use lib.ListN.{length}
-use Rattle.ranking.specs.Hints.{rankedHeld}
+use Rattle.obstacles.specs.Lent.{lentOf, obstaclesWith}
+use Rattle.obstacles.specs.Boxes.{boxIn}
+use Rattle.waits.specs.Words.{hintsIn}
+use Rattle.waits.proofs.Reading.{few, counted}
+use Rattle.chains.specs.Handed.{firstIndex}
+use Rattle.chains.proofs.Links.{chain-told}
+use Rattle.paths.specs.Trying.{chainFrom}
+use Rattle.paths.proofs.Few.{chain-few}
 use Rattle.arrival_paths.specs.Path.{byHints}
 use Rattle.arrival_paths.proofs.Left.{put-missing, put-refused}
 use Rattle.arrival_paths.proofs.arrival_path.by_hints.Statement.{statement}
 use Rattle.arrival_paths.proofs.arrival_path.by_hints.Tie as tie
 
-len-requires : tie.Need-len-requires
-len-requires c κs = search needs
+count-of-requires : tie.Need-count-of-requires
+count-of-requires c κs = search needs
 
 returns : tie.Need-returns
 unfolding byHints
 returns c =
-    let hints = rankedHeld (c .before .before .before .before .before .before .before .before .args .hints) in
-    rw (eq-eqb (length hints) 0 (sym (c .before .len .ensures) ∙ c .if1 .taken)) (put-missing 0)
+    let words = c .before .before .before .before .before .before .before .before .args .hints .now in
+    rw (eq-eqb (length (hintsIn words)) 0 (omega (arith, counted words))) (put-missing 0)
 
 -- There is a hint.
-some : (c : tie.Else1) → length (rankedHeld (c .before .before .before .before .before .before .before .before .args .hints)) ≡ 0 → ⊥
-some c e = c .if1 .left (c .before .len .ensures ∙ e)
+some : (c : tie.Else1) →
+    let words = c .before .before .before .before .before .before .before .before .args .hints .now in
+    length (hintsIn words) ≡ 0 → ⊥
+some c e = omega (arith, counted (c .before .before .before .before .before .before .before .before .args .hints .now))
 
 goal-contour-requires : tie.Need-goal-contour-requires
 goal-contour-requires c κs = search needs
@@ -52,8 +63,8 @@ unfolding byHints
 returns-2 c =
     let contour = c .before .before .before .before .before in
     let goal = contour .before .before in
-    let hints = rankedHeld (goal .before .before .before .before .before .before .before .before .before .args .hints) in
-    rw (ne-eqb (length hints) 0 (some (goal .before)), sym (goal .goal-contour .ensures) ∙ contour .contour .given .1)
+    let words = goal .before .before .before .before .before .before .before .before .before .args .hints .now in
+    rw (ne-eqb (length (hintsIn words)) 0 (some (goal .before)), sym (goal .goal-contour .ensures) ∙ contour .contour .given .1)
     (put-refused _ (c .before .before .refuse .ensures))
 
 same-length-2 : tie.Need-same-length-2
@@ -62,24 +73,30 @@ same-length-2 c = search needs
 returns-3 : tie.Need-returns-3
 unfolding byHints
 returns-3 c =
-    let found = c .before .before .before .before in
-    let root = found .before in
+    let found = c .before .before .before .before .before in
+    let root = found .before .before in
     let contour = root .before .before in
     let goal = contour .before .before in
-    let hints = rankedHeld (goal .before .before .before .before .before .before .before .before .before .args .hints) in
+    let a = goal .before .before .before .before .before .before .before .before .before .args in
+    let hints = hintsIn (a .hints .now) in
+    let table = lentOf (a .starts .now) (a .numbers .now) (a .times .now) (a .xs .now) (a .ys .now) in
+    let os = obstaclesWith table (boxIn (a .boxes .now)) in
+    let first = root .first-root .result in
+    let at-most : length hints ≤ 64 = omega (arith, few (a .hints .now), counted (a .hints .now)) in
+    let links = chain-few (a .trip) os hints (a .budget) (firstIndex first) at-most in
+    let told = chain-told (chainFrom (a .trip) os hints (a .budget) (firstIndex first)) (found .find-chain .ensures) links in
     rw (
       ne-eqb (length hints) 0 (some (goal .before)),
       sym (goal .goal-contour .ensures) ∙ contour .contour2 .given .1,
       ← root .first-root .ensures,
-      ← found .find-chain .ensures,
     )
-    (c .before .before .take .ensures)
+    (rw told at (c .before .before .take .ensures))
 
 pub by-hints-spec : {M : Type 1} → statement M
 by-hints-spec =
     tie.close
     (tie.spec
-    len-requires
+    count-of-requires
     returns
     goal-contour-requires
     enum-known-contour

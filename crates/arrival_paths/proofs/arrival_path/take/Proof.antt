@@ -1,6 +1,7 @@
 -- `arrival_paths::arrival_path::take` meets its contract: by the ending of the search.
 -- Assumes nothing.
 use borrow.Author.Needs.{needs}
+use Rattle.chains.specs.Handed.{chainedOf}
 use Rattle.arrival_paths.specs.Path.{taken}
 use Rattle.arrival_paths.proofs.Left.{put-missing, put-refused}
 use Rattle.arrival_paths.proofs.arrival_path.take.Statement.{statement}
@@ -28,22 +29,22 @@ same-length : tie.Need-same-length
 same-length c = search needs
 
 returns : tie.Need-returns
-unfolding taken
+unfolding taken chainedOf
 returns c = rw (c .before .before .before .before .enum-told .given .1) (c .before .before .along .ensures)
 
 returns-2 : tie.Need-returns-2
-unfolding taken
+unfolding taken chainedOf
 returns-2 c = rw (c .enum-told2 .given .1) (put-missing _)
 
 returns-3 : tie.Need-returns-3
-unfolding taken
+unfolding taken chainedOf
 returns-3 c = rw (c .enum-told3 .given .1) (put-missing _)
 
 same-length-2 : tie.Need-same-length-2
 same-length-2 c = search needs
 
 returns-4 : tie.Need-returns-4
-unfolding taken
+unfolding taken chainedOf
 returns-4 c =
     rw (c .before .before .before .before .before .ending .given .1) (put-refused _ (c .before .before .refuse .ensures))
 

@@ -10,16 +10,12 @@ returns : tie.Need-returns
 unfolding withLent
 returns c = rw (eq-eqb _ _ (c .if1 .taken))
 
-returns-2 : tie.Need-returns-2
-unfolding withLent
-returns-2 c = rw (ne-eqb _ _ (c .before .if1 .left), eq-eqb _ _ (c .if2 .taken))
-
 by-number-requires : tie.Need-by-number-requires
 by-number-requires c κs = search needs
 
-returns-3 : tie.Need-returns-3
+returns-2 : tie.Need-returns-2
 unfolding withLent
-returns-3 c = rw (ne-eqb _ _ (c .before .before .if1 .left), ne-eqb _ _ (c .before .if2 .left)) (c .by-number .ensures)
+returns-2 c = rw (ne-eqb _ _ (c .before .if1 .left)) (c .by-number .ensures)
 
 pub with-lent-spec : {M : Type 1} → statement M
-with-lent-spec = tie.close (tie.spec returns returns-2 by-number-requires returns-3)
+with-lent-spec = tie.close (tie.spec returns by-number-requires returns-2)

@@ -2,42 +2,41 @@
 -- Assumes nothing.
 use Prim.Native.Nat.{_+_, _-_, _≤_}
 use mathlib.Core.Path.{_≡_, sym, _∙_}
+use mathlib.Core.List.{_∷_}
 use native.Mathlib.Omega.{arith}
 use borrow.Author.Needs.{needs}
-use lib.ListN.{length, length-map, drop}
-use Rattle.ranking.specs.Hints.{rankedHeld}
-use Rattle.ranking.proofs.Held.{past}
+use lib.ListN.{drop}
+use Rattle.waits.specs.Words.{hintsIn}
+use Rattle.waits.proofs.Reading.{counted}
 use Rattle.choosing.specs.Roots.{countLevel}
-use Rattle.choosing.proofs.Counts.{held-in, held-from, level-here, level-next, level-end}
+use Rattle.choosing.proofs.Counts.{from-here, level-here, level-next, level-end}
 use Rattle.choosing.proofs.roots.count_level.Statement.{statement}
 use Rattle.choosing.proofs.roots.count_level.Tie as tie
 
 abbrev Inv-loop : tie.InvT-loop
-Inv-loop contour from hints n i₀ i =
-    (from ≤ i) × (i ≤ n) × (i - from + countLevel contour (drop i (rankedHeld hints)) ≡ countLevel contour (drop from (rankedHeld hints)))
+Inv-loop hints contour from n i₀ i =
+    (from ≤ i) × (i ≤ n) × (i - from + countLevel contour (drop i (hintsIn hints)) ≡ countLevel contour (drop from (hintsIn hints)))
 
 abbrev μ-loop : tie.MeasureT-loop
-μ-loop contour from hints n i₀ i = n - i
+μ-loop hints contour from n i₀ i = n - i
 
--- The array has 64 places.
-long : (c : tie.Start Inv-loop μ-loop) → length (c .args .t1 .all) ≡ 64
-long c = simp length-map at (c .good .0 .1 .1 .1 .1 .0 .1 .0 .1)
+-- The hint that the loop is at, and those behind it.
+here : (c : tie.After-hint-at Inv-loop μ-loop) →
+    let l = hintsIn (c .before .before .before .before .args .hints .now) in
+    let i = c .before .before .loop .i in
+    drop i l ≡ c .hint-at .result ∷ drop (i + 1) l
+here c =
+    let words = c .before .before .before .before .args .hints .now in
+    rw (c .hint-at .ensures) (from-here (hintsIn words) (c .before .before .loop .i) (omega (arith, counted words)))
 
-len-requires : tie.Need-len-requires Inv-loop μ-loop
-len-requires c κs = search needs
+count-of-requires : tie.Need-count-of-requires Inv-loop μ-loop
+count-of-requires c κs = search needs
 
 loop-holds : tie.Need-loop-holds Inv-loop μ-loop
-loop-holds c = (omega arith, omega (arith, c .len .ensures), omega arith)
+loop-holds c = (omega arith, omega (arith, counted (c .before .args .hints .now)), omega arith)
 
-mul-h : tie.Need-mul-h Inv-loop μ-loop
-mul-h c =
-    let start = c .before .before .before in
-    omega (arith, c .before .before .len .ensures, held-in (start .args .t1) (long start))
-
-element-copy-out-h : tie.Need-element-copy-out-h Inv-loop μ-loop
-element-copy-out-h c =
-    let start = c .before .before .before in
-    omega (arith, c .before .before .len .ensures, held-in (start .args .t1) (long start))
+hint-at-requires : tie.Need-hint-at-requires Inv-loop μ-loop
+hint-at-requires c κs = search needs
 
 is-below-requires : tie.Need-is-below-requires Inv-loop μ-loop
 is-below-requires c κs = search needs
@@ -49,10 +48,8 @@ returns : tie.Need-returns Inv-loop μ-loop
 returns c =
     let l = c .before .before .before .before in
     let a = l .before .before .args in
-    let i = l .loop .i in
-    let here = held-from (a .t1) i past (omega (arith, l .before .len .ensures)) in
     let stops = sym (c .before .is-below .ensures) ∙ c .if1 .taken in
-    omega (arith, level-here (a .contour) (rankedHeld (a .t1)) i _ here stops)
+    omega (arith, level-here (a .contour) (hintsIn (a .hints .now)) (l .loop .i) _ (here (c .before .before)) stops)
 
 add-i : tie.Need-add-i Inv-loop μ-loop
 add-i c = omega arith
@@ -64,10 +61,9 @@ loop-again : tie.Need-loop-again Inv-loop μ-loop
 loop-again c =
     let l = c .before .before .before .before in
     let a = l .before .before .args in
-    let i = l .loop .i in
-    let here = held-from (a .t1) i past (omega (arith, l .before .len .ensures)) in
     let counts = sym (c .before .is-below .ensures) ∙ c .if1 .left in
-    (omega arith, omega arith, omega (arith, level-next (a .contour) (rankedHeld (a .t1)) i _ here counts))
+    let next = level-next (a .contour) (hintsIn (a .hints .now)) (l .loop .i) _ (here (c .before .before)) counts in
+    (omega arith, omega arith, omega arith)
 
 sub-result-2 : tie.Need-sub-result-2 Inv-loop μ-loop
 sub-result-2 c = omega arith
@@ -76,7 +72,8 @@ returns-2 : tie.Need-returns-2 Inv-loop μ-loop
 returns-2 c =
     let l = c .before in
     let a = l .before .before .args in
-    omega (arith, level-end (a .contour) (rankedHeld (a .t1)) (l .loop .i) (omega (arith, l .before .len .ensures)))
+    let words = a .hints .now in
+    omega (arith, level-end (a .contour) (hintsIn words) (l .loop .i) (omega (arith, counted words)))
 
 pub count-level-spec : {M : Type 1} → statement M
 count-level-spec =
@@ -84,10 +81,9 @@ count-level-spec =
     (tie.spec
     Inv-loop
     μ-loop
-    len-requires
+    count-of-requires
     loop-holds
-    mul-h
-    element-copy-out-h
+    hint-at-requires
     is-below-requires
     sub-result
     returns

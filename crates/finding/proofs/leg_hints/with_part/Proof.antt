@@ -3,7 +3,8 @@
 use mathlib.Core.Path.{_≡_, sym, _∙_}
 use borrow.Author.Needs.{needs}
 use Rattle.shapes.specs.Vector.{dotOf}
-use Rattle.finding.specs.LegHints.{partOf, withPart}
+use Rattle.waits.proofs.Added.{added-none}
+use Rattle.finding.specs.LegHints.{partOf, partHints}
 use Rattle.finding.proofs.leg_hints.with_part.Statement.{statement}
 use Rattle.finding.proofs.leg_hints.with_part.Tie as tie
 
@@ -46,27 +47,28 @@ part-found : (c : tie.After-part-of) →
 part-found c = rw (← c .before .dot .ensures) (sym (c .part-of .ensures))
 
 returns : tie.Need-returns
-unfolding withPart
+unfolding partHints
 returns c =
-    let told = c .before .before in
-    rw (part-found (told .before .before) ∙ told .enum-told .given .1, ← c .before .oncoming-wait .ensures)
+    let told = c .before .before .before in
+    rw (part-found (told .before .before) ∙ told .enum-told .given .1, ← c .before .before .oncoming-wait .ensures)
     (c .with-wait .ensures)
 
 returns-2 : tie.Need-returns-2
-unfolding withPart
-returns-2 c = rw (part-found (c .before .before) ∙ c .enum-told2 .given .1)
+unfolding partHints
+returns-2 c = rw (part-found (c .before .before) ∙ c .enum-told2 .given .1) (added-none _ _)
 
 returns-3 : tie.Need-returns-3
-unfolding withPart
+unfolding partHints
 returns-3 c =
-    let part = c .before .before .before in
-    rw (part-found part ∙ c .before .enum-told3 .given .1, ← part .before .dot .ensures) (c .follow .ensures)
+    let told = c .before .before in
+    let part = told .before .before in
+    rw (part-found part ∙ told .enum-told3 .given .1, ← part .before .dot .ensures) (c .follow .ensures)
 
 returns-4 : tie.Need-returns-4
-unfolding withPart
+unfolding partHints
 returns-4 c =
-    let told = c .before .before in
-    rw (part-found (told .before .before) ∙ told .enum-told4 .given .1, ← c .before .standing-wait .ensures)
+    let told = c .before .before .before in
+    rw (part-found (told .before .before) ∙ told .enum-told4 .given .1, ← c .before .before .standing-wait .ensures)
     (c .with-wait2 .ensures)
 
 pub with-part-spec : {M : Type 1} → statement M

@@ -2,6 +2,7 @@
 -- Assumes nothing.
 use mathlib.Core.Path.{sym, _∙_}
 use borrow.Author.Needs.{needs}
+use Rattle.waits.proofs.Added.{added-none}
 use Rattle.finding.specs.Walk.{hintsOf}
 use Rattle.finding.proofs.walk.compute_wait_hints.Statement.{statement}
 use Rattle.finding.proofs.walk.compute_wait_hints.Tie as tie
@@ -12,14 +13,11 @@ course-of-requires c κs = search needs
 enum-known-heading : tie.Need-enum-known-heading
 enum-known-heading c = search needs
 
-refused-by-requires : tie.Need-refused-by-requires
-refused-by-requires c κs = search needs
+refuse-requires : tie.Need-refuse-requires
+refuse-requires c κs = search needs
 
 enum-told : tie.Need-enum-told
 enum-told c = search needs
-
-none-requires : tie.Need-none-requires
-none-requires c κs = search needs
 
 enum-known-heading-2 : tie.Need-enum-known-heading-2
 enum-known-heading-2 c = search needs
@@ -30,19 +28,19 @@ with-obstacles-requires c κs = search needs
 returns : tie.Need-returns
 unfolding hintsOf
 returns c =
-    let refused = c .before .before in
-    rw (sym (refused .before .before .course-of .ensures) ∙ refused .heading .given .1) (c .refused-by .ensures)
+    let refused = c .before .before .before in
+    rw (sym (refused .before .before .course-of .ensures) ∙ refused .heading .given .1) (c .refuse .ensures)
 
 returns-2 : tie.Need-returns-2
 unfolding hintsOf
 returns-2 c =
-    let missing = c .before in
-    rw (sym (missing .before .before .course-of .ensures) ∙ missing .enum-told .given .1) (c .none .ensures)
+    let heading = c .before .before .course-of in
+    rw (sym (heading .ensures) ∙ c .enum-told .given .1) (added-none _ _)
 
 returns-3 : tie.Need-returns-3
 unfolding hintsOf
 returns-3 c =
-    let along = c .before .before in
+    let along = c .before .before .before in
     rw (sym (along .before .before .course-of .ensures) ∙ along .heading2 .given .1) (c .with-obstacles .ensures)
 
 pub compute-wait-hints-spec : {M : Type 1} → statement M
@@ -51,9 +49,8 @@ compute-wait-hints-spec =
     (tie.spec
     course-of-requires
     enum-known-heading
-    refused-by-requires
+    refuse-requires
     enum-told
-    none-requires
     enum-known-heading-2
     with-obstacles-requires
     returns

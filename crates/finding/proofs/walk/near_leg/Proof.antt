@@ -4,6 +4,7 @@ use mathlib.Core.Path.{_≡_, sym, _∙_}
 use borrow.Author.Needs.{needs}
 use Rattle.floats.proofs.Tests.{found-true, found-false}
 use Rattle.shapes.specs.Box.{overlap}
+use Rattle.waits.proofs.Added.{added-none}
 use Rattle.finding.specs.Walk.{hintBox, nearLeg}
 use Rattle.finding.proofs.walk.near_leg.Statement.{statement}
 use Rattle.finding.proofs.walk.near_leg.Tie as tie
@@ -19,12 +20,12 @@ overlaps-requires c κs = search needs
 
 overlap-found : (c : tie.After-overlaps) →
     let a = c .before .before .before .args in
-    c .overlaps .result ≡ overlap (a .bounds) (hintBox (a .footprint) (a .leg))
+    c .overlaps .result ≡ overlap (a .bounds) (hintBox (a .other .footprint) (a .leg))
 overlap-found c = rw (← c .before .before .for-line .ensures, ← c .before .inflated-by .ensures) (c .overlaps .ensures)
 
 returns : tie.Need-returns
 unfolding nearLeg
-returns c = rw (found-false (overlap-found (c .before)) (c .if1 .taken))
+returns c = rw (found-false (overlap-found (c .before)) (c .if1 .taken)) (added-none _ _)
 
 run-of-requires : tie.Need-run-of-requires
 run-of-requires c κs = search needs
@@ -35,16 +36,17 @@ enum-known-ran c = search needs
 enum-told : tie.Need-enum-told
 enum-told c = search needs
 
-refused-by-requires : tie.Need-refused-by-requires
-refused-by-requires c κs = search needs
+refuse-requires : tie.Need-refuse-requires
+refuse-requires c κs = search needs
 
 returns-2 : tie.Need-returns-2
 unfolding nearLeg
 returns-2 c =
-    let run = c .before .before .before in
+    let told = c .before .before in
+    let run = told .before .before in
     let test = run .before in
-    rw (found-true (overlap-found (test .before)) (test .if1 .left), sym (run .run-of .ensures) ∙ c .before .enum-told .given .1)
-    (c .refused-by .ensures)
+    rw (found-true (overlap-found (test .before)) (test .if1 .left), sym (run .run-of .ensures) ∙ told .enum-told .given .1)
+    (c .refuse .ensures)
 
 with-leg-requires : tie.Need-with-leg-requires
 with-leg-requires c κs = search needs
@@ -52,7 +54,7 @@ with-leg-requires c κs = search needs
 returns-3 : tie.Need-returns-3
 unfolding nearLeg
 returns-3 c =
-    let told = c .before .before in
+    let told = c .before .before .before in
     let run = told .before .before in
     let test = run .before in
     rw (found-true (overlap-found (test .before)) (test .if1 .left), sym (run .run-of .ensures) ∙ told .ran .given .1)
@@ -69,7 +71,7 @@ near-leg-spec =
     run-of-requires
     enum-known-ran
     enum-told
-    refused-by-requires
+    refuse-requires
     returns-2
     with-leg-requires
     returns-3)

@@ -1,28 +1,30 @@
--- `finding::walk::with_legs` meets its contract: at each turn the walk from here on, behind what was found, is the whole one.
+-- `finding::walk::with_legs` meets its contract: at each turn what the walk from here on adds, the whole one adds.
 -- Assumes nothing.
 use Prim.Native.Nat.{ℕ, _-_}
-use mathlib.Core.Path.{_≡_, refl, sym, _∙_}
+use mathlib.Core.List.{List}
 use native.Mathlib.Omega.{arith}
 use borrow.Author.Needs.{needs}
 use Rattle.lists.specs.Listed.{listedTo}
 use Rattle.shapes.specs.declared.waypoint.Leg.{Leg}
 use Rattle.obstacles.specs.Lent.{legIn}
-use Rattle.finding.specs.Walk.{nearLeg, withLegs}
+use Rattle.waits.specs.Adding.{Added}
+use Rattle.waits.specs.declared.hint_list.Filled.{Filled}
+use Rattle.finding.specs.Walk.{nearLeg, nearLegs}
 use Rattle.finding.proofs.Walking.{legs-walked, leg-goes-on, leg-ends}
 use Rattle.finding.proofs.walk.with_legs.Statement.{statement}
 use Rattle.finding.proofs.walk.with_legs.Tie as tie
 
 abbrev Inv-loop : tie.InvT-loop
-Inv-loop agent bounds footprint gaps obstacle times xs ys from last found₀ i₀ found i =
+Inv-loop agent bounds other times xs ys from last hints₀ n m₀ i₀ hints m i =
     let leg : ℕ → Leg = legIn times xs ys in
-    withLegs agent bounds footprint gaps obstacle (listedTo leg last i) found ≡
-    withLegs agent bounds footprint gaps obstacle (listedTo leg last from) found₀
+    (left : List ℕ) (r : Filled) → Added (nearLegs agent bounds other (listedTo leg last i) m) m hints left r →
+    Added (nearLegs agent bounds other (listedTo leg last from) n) n hints₀ left r
 
 abbrev μ-loop : tie.MeasureT-loop
-μ-loop agent bounds footprint gaps obstacle times xs ys from last found₀ i₀ found i = last - i
+μ-loop agent bounds other times xs ys from last hints₀ n m₀ i₀ hints m i = last - i
 
 loop-holds : tie.Need-loop-holds Inv-loop μ-loop
-loop-holds c = refl
+loop-holds c = λ left r a. a
 
 add-leg-at : tie.Need-add-leg-at Inv-loop μ-loop
 add-leg-at c = omega arith
@@ -33,23 +35,31 @@ leg-at-requires c κs = search needs
 near-leg-requires : tie.Need-near-leg-requires Inv-loop μ-loop
 near-leg-requires c κs = search needs
 
+enum-known-filled : tie.Need-enum-known-filled Inv-loop μ-loop
+enum-known-filled c = search needs
+
+enum-told : tie.Need-enum-told Inv-loop μ-loop
+enum-told c = search needs
+
 -- What was found with the leg from waypoint i on, by the table's own numbers.
 leg-found : (c : tie.After-near-leg Inv-loop μ-loop) →
-    let l = c .before .before .before .loop in
-    let a = c .before .before .before .before .before .before .args in
+    let l = c .before .before .before .before .loop in
+    let a = c .before .before .before .before .before .before .before .args in
     let leg : ℕ → Leg = legIn (a .times .now) (a .xs .now) (a .ys .now) in
-    c .near-leg .result ≡ nearLeg (a .agent) (a .bounds) (a .footprint) (a .gaps) (a .obstacle) (leg (l .i)) (l .found)
-leg-found c = c .near-leg .ensures ∙ rw (c .before .leg-at .ensures)
+    let found = nearLeg (a .agent) (a .bounds) (a .other) (leg (l .i)) (l .m) in
+    Added found (l .m) (l .hints) (c .near-leg .last .1 .1 .1 .1 .0) (c .near-leg .result)
+leg-found c = rw (c .before .before .leg-at .ensures) at (c .near-leg .ensures)
 
 returns : tie.Need-returns Inv-loop μ-loop
 returns c =
-    let n = c .before .before in
-    let more = n .before .before .loop-test .taken in
-    let l = n .before .before .before .loop in
-    let a = n .before .before .before .before .before .before .args in
+    let found = c .before .before in
+    let test = found .before .before .before in
+    let l = test .before .loop in
+    let a = test .before .before .before .before .args in
     let leg : ℕ → Leg = legIn (a .times .now) (a .xs .now) (a .ys .now) in
-    let here = leg-ends (a .agent) (a .bounds) (a .footprint) (a .gaps) (a .obstacle) leg (a .last) (l .i) in
-    here (n .near-leg .result) (l .found) more (leg-found n) (c .if1 .taken) ∙ l .inv
+    let refused = rw (c .enum-told .given .1) at (leg-found found) in
+    rw (c .enum-told .given .1)
+    (l .inv _ _ (leg-ends (a .agent) (a .bounds) (a .other) leg (a .last) (l .i) (l .m) _ (test .loop-test .taken) refused))
 
 add-i : tie.Need-add-i Inv-loop μ-loop
 add-i c = omega arith
@@ -58,22 +68,23 @@ loop-less : tie.Need-loop-less Inv-loop μ-loop
 loop-less c = omega arith
 
 loop-again : tie.Need-loop-again Inv-loop μ-loop
-loop-again c =
-    let n = c .before .before in
-    let more = n .before .before .loop-test .taken in
-    let l = n .before .before .before .loop in
-    let a = n .before .before .before .before .before .before .args in
+loop-again c left r rest =
+    let told = c .before in
+    let found = told .before .before in
+    let test = found .before .before .before in
+    let l = test .before .loop in
+    let a = test .before .before .before .before .args in
     let leg : ℕ → Leg = legIn (a .times .now) (a .xs .now) (a .ys .now) in
-    let here = leg-goes-on (a .agent) (a .bounds) (a .footprint) (a .gaps) (a .obstacle) leg (a .last) (l .i) in
-    here (n .near-leg .result) (l .found) more (leg-found n) (c .if1 .left) ∙ l .inv
+    let more = test .loop-test .taken in
+    let stored = rw (told .filled .given .1) at (leg-found found) in
+    l .inv left r (leg-goes-on (a .agent) (a .bounds) (a .other) leg (a .last) (l .i) (l .m) _ more stored rest)
 
 returns-2 : tie.Need-returns-2 Inv-loop μ-loop
 returns-2 c =
     let l = c .before .loop in
     let a = c .before .before .before .before .args in
     let leg : ℕ → Leg = legIn (a .times .now) (a .xs .now) (a .ys .now) in
-    let here = legs-walked (a .agent) (a .bounds) (a .footprint) (a .gaps) (a .obstacle) leg (a .last) (l .i) in
-    sym (here (l .found) (c .loop-test .left)) ∙ l .inv
+    l .inv _ _ (legs-walked (a .agent) (a .bounds) (a .other) leg (a .last) (l .i) (l .m) (l .hints) (c .loop-test .left))
 
 pub with-legs-spec : {M : Type 1} → statement M
 with-legs-spec =
@@ -85,6 +96,8 @@ with-legs-spec =
     add-leg-at
     leg-at-requires
     near-leg-requires
+    enum-known-filled
+    enum-told
     returns
     add-i
     loop-less

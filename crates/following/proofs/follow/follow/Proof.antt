@@ -1,8 +1,11 @@
--- `following::follow::follow` meets its contract: refused as the first sight of the leg is, else followed from there.
+-- `following::follow::follow` meets its contract: refused as the first sight of the leg is, none where it is not followed, else the
+-- chase and its opening are the definition's.
 -- Assumes nothing.
 use mathlib.Core.Path.{sym, _∙_}
 use borrow.Author.Needs.{needs}
-use Rattle.following.specs.Follow.{following}
+use Rattle.floats.proofs.Tests.{found-true, found-false}
+use Rattle.waits.proofs.Added.{added-none}
+use Rattle.following.specs.Follow.{followHints}
 use Rattle.following.proofs.follow.follow.Statement.{statement}
 use Rattle.following.proofs.follow.follow.Tie as tie
 
@@ -15,23 +18,54 @@ enum-known-sight c = search needs
 enum-told : tie.Need-enum-told
 enum-told c = search needs
 
-refused-by-requires : tie.Need-refused-by-requires
-refused-by-requires c κs = search needs
+refuse-requires : tie.Need-refuse-requires
+refuse-requires c κs = search needs
 
 returns : tie.Need-returns
-unfolding following
+unfolding followHints
 returns c =
-    let told = c .before in
-    rw (sym (told .before .before .first-seen .ensures) ∙ told .enum-told .given .1) (c .refused-by .ensures)
+    let told = c .before .before in
+    rw (sym (told .before .before .first-seen .ensures) ∙ told .enum-told .given .1) (c .refuse .ensures)
 
-follow-from-requires : tie.Need-follow-from-requires
-follow-from-requires c κs = search needs
+is-followed-requires : tie.Need-is-followed-requires
+is-followed-requires c κs = search needs
 
 returns-2 : tie.Need-returns-2
-unfolding following
+unfolding followHints
 returns-2 c =
-    let told = c .before .before in
-    rw (sym (told .before .before .first-seen .ensures) ∙ told .sight .given .1) (c .follow-from .ensures)
+    let told = c .before .before .before in
+    rw (
+      sym (told .before .before .first-seen .ensures) ∙ told .sight .given .1,
+      found-false (c .before .is-followed .ensures) (c .if1 .taken),
+    )
+    (added-none _ _)
+
+dot-requires : tie.Need-dot-requires
+dot-requires c κs = search needs
+
+chase-of-requires : tie.Need-chase-of-requires
+chase-of-requires c κs = search needs
+
+set-out-requires : tie.Need-set-out-requires
+set-out-requires c κs = search needs
+
+open-requires : tie.Need-open-requires
+open-requires c κs = search needs
+
+returns-3 : tie.Need-returns-3
+unfolding followHints
+returns-3 c =
+    let ahead = c .before .before .before .before in
+    let test = ahead .before in
+    let told = test .before .before .before in
+    rw (
+      sym (told .before .before .first-seen .ensures) ∙ told .sight .given .1,
+      found-true (test .before .is-followed .ensures) (test .if1 .left),
+      ← ahead .dot .ensures,
+      ← c .before .before .before .chase-of .ensures,
+      ← c .before .before .set-out .ensures,
+    )
+    (c .«open» .ensures)
 
 pub follow-spec : {M : Type 1} → statement M
 follow-spec =
@@ -40,7 +74,12 @@ follow-spec =
     first-seen-requires
     enum-known-sight
     enum-told
-    refused-by-requires
+    refuse-requires
     returns
-    follow-from-requires
-    returns-2)
+    is-followed-requires
+    returns-2
+    dot-requires
+    chase-of-requires
+    set-out-requires
+    open-requires
+    returns-3)

@@ -1,7 +1,7 @@
--- `following::follow::open` meets its contract: the rounds, after the first wait where there is one and it was not refused.
+-- `following::follow::open` meets its contract: the rounds, behind the first wait where there is one and it was not refused.
 -- Assumes nothing.
 use borrow.Author.Needs.{needs}
-use Rattle.waits.proofs.Storing.{going, ended, after-going, after-refused}
+use Rattle.waits.proofs.Added.{added-then, added-ended}
 use Rattle.following.specs.Follow.{opened}
 use Rattle.following.proofs.follow.open.Statement.{statement}
 use Rattle.following.proofs.follow.open.Tie as tie
@@ -18,33 +18,33 @@ enum-known-first-2 c = search needs
 with-stop-requires : tie.Need-with-stop-requires
 with-stop-requires c κs = search needs
 
+enum-known-filled : tie.Need-enum-known-filled
+enum-known-filled c = search needs
+
+enum-told : tie.Need-enum-told
+enum-told c = search needs
+
 returns : tie.Need-returns
 unfolding opened
 returns c =
     let stop = c .before .before in
-    rw (
-      stop .before .before .first2 .given .1,
-      ← stop .with-stop .ensures,
-      after-refused (stop .with-stop .result) _ (ended (stop .with-stop .result) (c .if1 .taken)),
-    )
+    let refused = rw (c .enum-told .given .1) at (stop .with-stop .ensures) in
+    rw (stop .before .before .before .first2 .given .1, c .enum-told .given .1) (added-ended _ _ _ _ refused)
 
 rounds-requires-2 : tie.Need-rounds-requires-2
 rounds-requires-2 c κs = search needs
 
 returns-2 : tie.Need-returns-2
 unfolding opened
-returns-2 c = rw (c .before .before .first .given .1) (c .rounds .ensures)
+returns-2 c = rw (c .before .before .before .first .given .1) (c .rounds .ensures)
 
 returns-3 : tie.Need-returns-3
 unfolding opened
 returns-3 c =
-    let stop = c .before .before .before in
-    rw (
-      stop .before .before .first2 .given .1,
-      ← stop .with-stop .ensures,
-      after-going (stop .with-stop .result) _ (going (stop .with-stop .result) (c .before .if1 .left)),
-    )
-    (c .rounds2 .ensures)
+    let told = c .before .before .before in
+    let stop = told .before .before in
+    let stored = rw (told .filled .given .1) at (stop .with-stop .ensures) in
+    rw (stop .before .before .before .first2 .given .1) (added-then _ _ _ _ stored (c .rounds2 .ensures))
 
 pub open-spec : {M : Type 1} → statement M
 open-spec =
@@ -54,6 +54,8 @@ open-spec =
     rounds-requires
     enum-known-first-2
     with-stop-requires
+    enum-known-filled
+    enum-told
     returns
     rounds-requires-2
     returns-2

@@ -2,7 +2,7 @@
 -- Assumes nothing.
 use mathlib.Core.Path.{sym, _∙_}
 use borrow.Author.Needs.{needs}
-use Rattle.following.specs.Follow.{withStop}
+use Rattle.following.specs.Follow.{stopHint}
 use Rattle.following.proofs.follow.with_stop.Statement.{statement}
 use Rattle.following.proofs.follow.with_stop.Tie as tie
 
@@ -15,22 +15,22 @@ enum-known-tp c = search needs
 enum-told : tie.Need-enum-told
 enum-told c = search needs
 
-refused-by-requires : tie.Need-refused-by-requires
-refused-by-requires c κs = search needs
+refuse-requires : tie.Need-refuse-requires
+refuse-requires c κs = search needs
 
 returns : tie.Need-returns
-unfolding withStop
+unfolding stopHint
 returns c =
-    let told = c .before in
-    rw (sym (told .before .before .from-secs-f64 .ensures) ∙ told .enum-told .given .1) (c .refused-by .ensures)
+    let told = c .before .before in
+    rw (sym (told .before .before .from-secs-f64 .ensures) ∙ told .enum-told .given .1) (c .refuse .ensures)
 
 with-hint-requires : tie.Need-with-hint-requires
 with-hint-requires c κs = search needs
 
 returns-2 : tie.Need-returns-2
-unfolding withStop
+unfolding stopHint
 returns-2 c =
-    let told = c .before .before in
+    let told = c .before .before .before in
     rw (sym (told .before .before .from-secs-f64 .ensures) ∙ told .tp .given .1) (c .with-hint .ensures)
 
 pub with-stop-spec : {M : Type 1} → statement M
@@ -40,7 +40,7 @@ with-stop-spec =
     from-secs-f64-requires
     enum-known-tp
     enum-told
-    refused-by-requires
+    refuse-requires
     returns
     with-hint-requires
     returns-2)

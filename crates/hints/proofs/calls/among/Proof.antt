@@ -1,6 +1,5 @@
 -- `hints::calls::among` meets its contract: 128 doubles have room for the boxes of 32 obstacles.
 -- Assumes nothing.
-use mathlib.Core.Path.{_∙_}
 use native.Mathlib.Omega.{arith}
 use borrow.Author.Needs.{needs}
 use Rattle.obstacles.specs.Lent.{lentOf}
@@ -25,11 +24,11 @@ compute-safe-linear-path-wait-hints-requires c κs = search needs
 
 returns : tie.Need-returns
 returns c =
-    let put = c .before .before .before .before .put-boxes in
-    let a = c .before .before .before .before .before .before .before .before .before .before .args in
+    let put = c .before .before .before .before .before .put-boxes in
+    let a = c .before .before .before .before .before .before .before .before .before .before .before .args in
     let lent = lentOf (a .starts .now) (a .numbers .now) (a .times .now) (a .xs .now) (a .ys .now) in
-    c .compute-safe-linear-path-wait-hints .ensures ∙
-    rw (c .before .before .for-line .ensures, with-boxes lent _ _ (put .ensures) (omega arith))
+    rw (c .before .before .before .for-line .ensures, with-boxes lent _ _ (put .ensures) (omega arith)) at
+    (c .compute-safe-linear-path-wait-hints .ensures)
 
 pub among-spec : {M : Type 1} → statement M
 among-spec =

@@ -16,8 +16,8 @@ examine-requires c κs = search needs
 enum-known-input : tie.Need-enum-known-input
 enum-known-input c = search needs
 
-refused-by-requires : tie.Need-refused-by-requires
-refused-by-requires c κs = search needs
+refuse-requires : tie.Need-refuse-requires
+refuse-requires c κs = search needs
 
 enum-told : tie.Need-enum-told
 enum-told c = search needs
@@ -25,8 +25,8 @@ enum-told c = search needs
 is-brief-requires : tie.Need-is-brief-requires
 is-brief-requires c κs = search needs
 
-refused-by-requires-2 : tie.Need-refused-by-requires-2
-refused-by-requires-2 c κs = search needs
+refuse-requires-2 : tie.Need-refuse-requires-2
+refuse-requires-2 c κs = search needs
 
 fine : (c : tie.After-enum-told) →
     let a = c .before .before .before .before .before .before .before .args in
@@ -40,12 +40,12 @@ fine c = sym (c .before .before .examine .ensures) ∙ c .enum-told .given .1
 returns : tie.Need-returns
 unfolding askedHints
 returns c =
-    let brief = c .before .before in
-    rw (fine (brief .before), sym (brief .is-brief .ensures) ∙ c .before .if1 .taken) (c .refused-by2 .ensures)
+    let brief = c .before .before .before in
+    rw (fine (brief .before), sym (brief .is-brief .ensures) ∙ c .before .before .if1 .taken) (c .refuse2 .ensures)
 
 among-requires : tie.Need-among-requires
 among-requires c κs =
-    let told = c .before .before in
+    let told = c .before .before .before in
     let a = told .before .before .before .before .before .before .before .args in
     let lent = lentOf (a .starts .now) (a .numbers .now) (a .times .now) (a .xs .now) (a .ys .now) in
     fine-starts (a .p) (a .agent) lent (fine told)
@@ -53,14 +53,14 @@ among-requires c κs =
 returns-2 : tie.Need-returns-2
 unfolding askedHints
 returns-2 c =
-    let refused = c .before .before in
-    rw (sym (refused .before .before .examine .ensures) ∙ refused .input .given .1) (c .refused-by .ensures)
+    let refused = c .before .before .before in
+    rw (sym (refused .before .before .examine .ensures) ∙ refused .input .given .1) (c .refuse .ensures)
 
 returns-3 : tie.Need-returns-3
 unfolding askedHints
 returns-3 c =
-    let brief = c .before .before in
-    rw (fine (brief .before), sym (brief .is-brief .ensures) ∙ c .before .if1 .left) (c .among .ensures)
+    let brief = c .before .before .before in
+    rw (fine (brief .before), sym (brief .is-brief .ensures) ∙ c .before .before .if1 .left) (c .among .ensures)
 
 pub wait-hints-spec : {M : Type 1} → statement M
 wait-hints-spec =
@@ -68,10 +68,10 @@ wait-hints-spec =
     (tie.spec
     examine-requires
     enum-known-input
-    refused-by-requires
+    refuse-requires
     enum-told
     is-brief-requires
-    refused-by-requires-2
+    refuse-requires-2
     returns
     among-requires
     returns-2

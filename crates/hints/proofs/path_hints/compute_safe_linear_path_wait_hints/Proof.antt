@@ -1,76 +1,50 @@
--- `hints::path_hints::compute_safe_linear_path_wait_hints` meets its contract: a refusal, or all hints, ranked.
+-- `hints::path_hints::compute_safe_linear_path_wait_hints` meets its contract: the refusal of the search, or all hints, ranked.
 -- Assumes nothing.
-use mathlib.Core.Path.{sym, _∙_}
+use mathlib.Core.Path.{refl}
 use borrow.Author.Needs.{needs}
-use Rattle.waits.proofs.Storing.{going, ended}
+use Rattle.waits.proofs.Added.{added-long, answer-given, answer-refused}
 use Rattle.hints.specs.Contour.{rankedHints}
+use Rattle.hints.proofs.Found.{refused-ranks}
 use Rattle.hints.proofs.path_hints.compute_safe_linear_path_wait_hints.Statement.{statement}
 use Rattle.hints.proofs.path_hints.compute_safe_linear_path_wait_hints.Tie as tie
 
 compute-wait-hints-requires : tie.Need-compute-wait-hints-requires
 compute-wait-hints-requires c κs = search needs
 
-refused-by-requires : tie.Need-refused-by-requires
-refused-by-requires c κs = search needs
+enum-known-filled : tie.Need-enum-known-filled
+enum-known-filled c = search needs
+
+enum-told : tie.Need-enum-told
+enum-told c = search needs
 
 returns : tie.Need-returns
 unfolding rankedHints
 returns c =
-    let found = c .before .before .before .compute-wait-hints in
-    rw (← found .ensures, ended (found .result) (c .before .if1 .taken)) (c .refused-by .ensures)
+    let found = c .before .before .compute-wait-hints in
+    let told = c .enum-told .given .1 in
+    let added = rw told at (found .ensures) in
+    let refused = answer-refused _ 0 _ added in
+    rw (refused, told) (refused-ranks _ _ _ (rw refused at added))
 
-scale-of-requires : tie.Need-scale-of-requires
-scale-of-requires c κs = search needs
-
-enum-known-scaling : tie.Need-enum-known-scaling
-enum-known-scaling c = search needs
-
-refused-by-requires-2 : tie.Need-refused-by-requires-2
-refused-by-requires-2 c κs = search needs
-
-enum-known-scaling-2 : tie.Need-enum-known-scaling-2
-enum-known-scaling-2 c = search needs
-
-rank-requires : tie.Need-rank-requires
-rank-requires c κs = search needs
+measure-requires : tie.Need-measure-requires
+measure-requires c κs = added-long _ 0 (c .before .before .before .before .compute-wait-hints .ensures) refl
 
 returns-2 : tie.Need-returns-2
 unfolding rankedHints
 returns-2 c =
-    let refused = c .before .before in
-    let scale = refused .before .before in
-    let found = scale .before .before .before .compute-wait-hints in
-    rw (
-      ← found .ensures,
-      going (found .result) (scale .before .if1 .left),
-      sym (scale .scale-of .ensures) ∙ refused .scaling .given .1,
-    )
-    (c .refused-by2 .ensures)
-
-returns-3 : tie.Need-returns-3
-unfolding rankedHints
-returns-3 c =
-    let by = c .before .before in
-    let scale = by .before .before in
-    let found = scale .before .before .before .compute-wait-hints in
-    rw (
-      ← found .ensures,
-      going (found .result) (scale .before .if1 .left),
-      sym (scale .scale-of .ensures) ∙ by .scaling2 .given .1,
-    )
-    (c .rank .ensures)
+    let known = c .before .before .before in
+    let found = known .before .before .compute-wait-hints in
+    let added = rw (known .filled .given .1) at (found .ensures) in
+    let given = answer-given _ 0 _ added in
+    rw (given .1) (c .measure .ensures (given .0) (rw (given .1) at added))
 
 pub compute-safe-linear-path-wait-hints-spec : {M : Type 1} → statement M
 compute-safe-linear-path-wait-hints-spec =
     tie.close
     (tie.spec
     compute-wait-hints-requires
-    refused-by-requires
+    enum-known-filled
+    enum-told
     returns
-    scale-of-requires
-    enum-known-scaling
-    refused-by-requires-2
-    enum-known-scaling-2
-    rank-requires
-    returns-2
-    returns-3)
+    measure-requires
+    returns-2)

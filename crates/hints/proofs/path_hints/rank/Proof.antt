@@ -1,57 +1,57 @@
--- `hints::path_hints::rank` meets its contract: at each turn the hints from here on, put among those that are ranked, are all.
+-- `hints::path_hints::rank` meets its contract: at each turn the hints so far are ranked in front of the others.
 -- Assumes nothing.
 use Prim.Native.Nat.{_-_, _≤_, _<_}
-use mathlib.Core.Path.{_≡_, sym, _∙_}
+use mathlib.Core.Path.{_≡_, sym, ap, subst, _∙_}
 use native.Mathlib.Omega.{arith}
 use borrow.Author.Needs.{needs}
-use lib.IntN.{pos}
-use lib.Ieee.{nan}
-use lib.ListN.{length, drop, length-map, length-take}
-use Rattle.waits.specs.Hints.{held}
-use Rattle.waits.specs.declared.hint.WaitHint.{WaitHint}
-use Rattle.ranking.specs.Hints.{noRanked}
-use Rattle.hints.specs.Contour.{gradedOnto}
-use Rattle.hints.proofs.Walking.{hints-ranked, hint-ranked, hint-strays}
+use lib.Dec.{T}
+use lib.Ieee.{binary64}
+use lib.Ieee.Bits.{ofBits-toBits}
+use Rattle.patterns.proofs.Words.{signed-back}
+use Rattle.waits.specs.Words.{countIn, hintIn}
+use Rattle.waits.specs.declared.hint.RankedHint.{RankedHint}
+use Rattle.waits.proofs.Reading.{few}
+use Rattle.waits.proofs.Words.{KeptRanked}
+use Rattle.hints.specs.Contour.{gradeOf}
+use Rattle.hints.proofs.Walking.{SoFar, none-yet, found-next, one-more, one-strays, all-ranked, refused-over}
 use Rattle.hints.proofs.path_hints.rank.Statement.{statement}
 use Rattle.hints.proofs.path_hints.rank.Tie as tie
 
 abbrev Inv-loop : tie.InvT-loop
-Inv-loop scale hints n list₀ i₀ list i =
-    gradedOnto scale list (drop i (held hints)) ≡ gradedOnto scale noRanked (held hints)
+Inv-loop scale hints₀ n i₀ hints i = (i ≤ n) × SoFar scale hints₀ hints i
 
 abbrev μ-loop : tie.MeasureT-loop
-μ-loop scale hints n list₀ i₀ list i = n - i
+μ-loop scale hints₀ n i₀ hints i = n - i
 
--- What is read where there is no place.
-abbrev past : WaitHint
-past = record { place = record { x = nan; y = nan }; until = record { 0 = pos 0 }; obstacle = 0 }
-
--- There are 64 places.
-places : (c : tie.Start Inv-loop μ-loop) → length (c .args .t2 .all) ≡ 64
-places c = simp length-map at (c .good .1 .0 .1 .1 .1 .1 .0 .1 .0 .1)
-
--- So there are no more hints.
-few : (c : tie.Start Inv-loop μ-loop) → length (held (c .args .t2)) ≤ 64
-unfolding held
-few c = let a = c .args .t2 in omega (arith, places c, length-take (a .count) (a .all))
-
-len-requires : tie.Need-len-requires Inv-loop μ-loop
-len-requires c κs = search needs
-
-none-requires : tie.Need-none-requires Inv-loop μ-loop
-none-requires c κs = search needs
+count-of-requires : tie.Need-count-of-requires Inv-loop μ-loop
+count-of-requires c κs = search needs
 
 loop-holds : tie.Need-loop-holds Inv-loop μ-loop
-loop-holds c = rw (c .none .ensures)
+loop-holds c = let a = c .before .before .args in (omega arith, none-yet (a .scale) (a .hints .now))
 
-mul-hint : tie.Need-mul-hint Inv-loop μ-loop
-mul-hint c = let n = c .before .before .before in omega (arith, few (n .before))
-
-element-copy-out-hint : tie.Need-element-copy-out-hint Inv-loop μ-loop
-element-copy-out-hint c = let n = c .before .before .before in omega (arith, few (n .before))
+hint-at-requires : tie.Need-hint-at-requires Inv-loop μ-loop
+hint-at-requires c κs = search needs
 
 grade-of-requires : tie.Need-grade-of-requires Inv-loop μ-loop
 grade-of-requires c κs = search needs
+
+-- There is a hint at place i,
+there : (c : tie.In-loop Inv-loop μ-loop) →
+    let l = c .before in
+    l .loop .i < countIn (l .before .before .before .args .hints .now)
+there c = let l = c .before in omega (arith, l .before .count-of .ensures)
+
+-- and it is measured as it was found.
+graded : (c : tie.After-grade-of Inv-loop μ-loop) →
+    let l = c .before .before .before .before in
+    let a = l .before .before .before .args in
+    c .grade-of .result ≡ gradeOf (a .scale) (hintIn (a .hints .now) (l .loop .i) .hint)
+graded c =
+    let l = c .before .before .before .before in
+    let a = l .before .before .before .args in
+    let place = there (c .before .before .before) in
+    let read = found-next (a .scale) (a .hints .now) (l .loop .hints) (l .loop .i) (l .loop .inv .1) place in
+    c .grade-of .ensures ∙ ap (λ (r : RankedHint). gradeOf (a .scale) (r .hint)) (c .before .hint-at .ensures ∙ read)
 
 enum-known-grade : tie.Need-enum-known-grade Inv-loop μ-loop
 enum-known-grade c = search needs
@@ -59,50 +59,72 @@ enum-known-grade c = search needs
 enum-told : tie.Need-enum-told Inv-loop μ-loop
 enum-told c = search needs
 
-refused-by-requires : tie.Need-refused-by-requires Inv-loop μ-loop
-refused-by-requires c κs = search needs
+refuse-requires : tie.Need-refuse-requires Inv-loop μ-loop
+refuse-requires c κs = search needs
 
 returns : tie.Need-returns Inv-loop μ-loop
 returns c =
-    let told = c .before in
+    let told = c .before .before in
     let grade = told .before .before in
-    let l = grade .before .before .before in
-    let n = l .before .before in
-    let a = n .before .args in
-    let more : l .loop .i < length (held (a .t2)) = omega arith in
-    let strays = sym (grade .grade-of .ensures) ∙ told .enum-told .given .1 in
-    c .refused-by .ensures ∙ hint-strays (a .scale) (l .loop .list) (a .t2) (l .loop .i) past more strays ∙ l .loop .inv
+    let l = grade .before .before .before .before in
+    let a = l .before .before .before .args in
+    let words = a .hints .now in
+    let strays = sym (graded grade) ∙ told .enum-told .given .1 in
+    let place = there (grade .before .before .before) in
+    rw (one-strays (a .scale) words (l .loop .hints) (l .loop .i) (l .loop .inv .1) place strays)
+    (refused-over 7 words (c .refuse .last .0) (c .refuse .result) (c .refuse .ensures))
 
-with-ranked-requires : tie.Need-with-ranked-requires Inv-loop μ-loop
-with-ranked-requires c κs = search needs
+-- The numbers of a ranked hint are machine numbers.
+kept : (c : tie.After-known-told Inv-loop μ-loop) → KeptRanked (c .before .grade .given .0 .0)
+kept c =
+    let ranked = c .known-told .given .0 .1 .1 in
+    let hint = ranked .1 .1 .0 .1 .1 in
+    let place = hint .0 .1 .1 in
+    let h = c .before .grade .given .0 .0 .hint in
+    record {
+      contour = record { sfits = omega (arith, ranked .0 .1 .1 .0 .1) };
+      reach = subst T (sym (ranked .1 .0 .1)) tt;
+      hint = record {
+        x = ofBits-toBits binary64 (h .place .x) (subst T (sym (place .0 .1)) tt);
+        y = ofBits-toBits binary64 (h .place .y) (subst T (sym (place .1 .0 .1)) tt);
+        until = signed-back (h .until .0) (record { sfits = omega (arith, hint .1 .0 .1 .1 .0 .1) });
+      };
+    }
+
+put-in-rank-requires : tie.Need-put-in-rank-requires Inv-loop μ-loop
+put-in-rank-requires c κs = search needs
 
 add-i : tie.Need-add-i Inv-loop μ-loop
 add-i c =
-    let n = c .before .before .before .before .before .before .before .before .before in
-    omega (arith, few (n .before))
+    let l = c .before .before .before .before .before .before .before .before .before in
+    omega (arith, few (l .before .before .before .args .hints .now), l .before .count-of .ensures)
 
 loop-less : tie.Need-loop-less Inv-loop μ-loop
 loop-less c = omega arith
 
 loop-again : tie.Need-loop-again Inv-loop μ-loop
 loop-again c =
-    let known = c .before .before in
+    let known = c .before .before .before in
     let grade = known .before .before in
-    let l = grade .before .before .before in
-    let n = l .before .before in
-    let a = n .before .args in
-    let more : l .loop .i < length (held (a .t2)) = omega arith in
+    let l = grade .before .before .before .before in
+    let a = l .before .before .before .args in
+    let words = a .hints .now in
     let r = known .grade .given .0 .0 in
-    let graded = sym (grade .grade-of .ensures) ∙ known .grade .given .1 in
-    rw (c .with-ranked .ensures) (hint-ranked (a .scale) (l .loop .list) (a .t2) (l .loop .i) past r more graded ∙ l .loop .inv)
+    let given = sym (graded grade) ∙ known .grade .given .1 in
+    let place = there (grade .before .before .before) in
+    let next =
+    one-more (a .scale) words (l .loop .hints) (l .loop .i) (l .loop .inv .1) r (l .before .before .before .pre) place given
+    (kept (c .before .before)) in
+    (omega arith, rw (c .put-in-rank .ensures) next)
 
 returns-2 : tie.Need-returns-2 Inv-loop μ-loop
 returns-2 c =
     let l = c .before in
-    let n = l .before .before in
-    let a = n .before .args in
-    let done : length (held (a .t2)) ≤ l .loop .i = omega arith in
-    sym (hints-ranked (a .scale) (l .loop .list) (a .t2) (l .loop .i) past done) ∙ l .loop .inv
+    let s = l .before .before .before in
+    let words = s .args .hints .now in
+    let end : countIn words ≡ l .loop .i = omega (arith, l .before .count-of .ensures) in
+    let all : l .before .count-of .result ≡ l .loop .i = omega arith in
+    rw all (all-ranked (s .args .scale) words (l .loop .hints) (l .loop .i) (l .loop .inv .1) (s .pre) end)
 
 pub rank-spec : {M : Type 1} → statement M
 rank-spec =
@@ -110,17 +132,15 @@ rank-spec =
     (tie.spec
     Inv-loop
     μ-loop
-    len-requires
-    none-requires
+    count-of-requires
     loop-holds
-    mul-hint
-    element-copy-out-hint
+    hint-at-requires
     grade-of-requires
     enum-known-grade
     enum-told
-    refused-by-requires
+    refuse-requires
     returns
-    with-ranked-requires
+    put-in-rank-requires
     add-i
     loop-less
     loop-again

@@ -8,9 +8,11 @@ use Rattle.limits.specs.Domain.{isTime}
 use Rattle.obstacles.specs.Lent.{lentOf}
 use Rattle.obstacles.specs.Examined.{agentExamined}
 use Rattle.obstacles.proofs.Shaped.{fine-starts}
-use Rattle.asking.specs.Beside.{isBudget, withNumbers, withLent}
-use Rattle.arrival_paths.specs.Asked.{askedPath, pathOutcome}
-use Rattle.asking.proofs.Fine.{numbers-fine, lent-fine}
+use Rattle.asking.specs.Beside.{isBudget, withNumbers}
+use Rattle.arrival_paths.specs.Asked.{pathOutcome}
+use Rattle.asking.proofs.Fine.{numbers-fine}
+use Rattle.lone_paths.specs.Taken.{withTaken}
+use Rattle.lone_paths.proofs.Asked.{taken-fine, asked-fine, asked-refused}
 use Rattle.lone_paths.proofs.calls.arrival_path.Statement.{statement}
 use Rattle.lone_paths.proofs.calls.arrival_path.Tie as tie
 
@@ -26,23 +28,24 @@ examine-requires c κs = search needs
 with-numbers-requires : tie.Need-with-numbers-requires
 with-numbers-requires c κs = search needs
 
-with-lent-requires : tie.Need-with-lent-requires
-with-lent-requires c κs = search needs
+with-taken-requires : tie.Need-with-taken-requires
+with-taken-requires c κs = search needs
 
 -- What is found of the whole input.
-input-found : (c : tie.After-with-lent) →
-    let a = c .before .before .before .before .before .before .before .before .before .before .before .args in
+input-found : (c : tie.After-with-taken) →
+    let taken = c .before .before .before .before in
+    let a = taken .before .before .before .before .before .before .before .before .args in
     let lent = lentOf (a .starts .now) (a .numbers .now) (a .times .now) (a .xs .now) (a .ys .now) in
-    withLent (c .before .before .before .before .lent-hints .result .refused)
+    withTaken (taken .lent-hints .result)
     (withNumbers (isBudget (a .budget) && isTime (a .arrival)) (agentExamined (a .p) (a .agent) lent)) ≡
-    c .with-lent .result
+    c .with-taken .result
 input-found c =
     rw (
       ← c .before .before .before .is-asked .ensures,
       ← c .before .before .examine .ensures,
       ← c .before .with-numbers .ensures,
     )
-    (sym (c .with-lent .ensures))
+    (sym (c .with-taken .ensures))
 
 enum-known-input : tie.Need-enum-known-input
 enum-known-input c = search needs
@@ -63,51 +66,62 @@ same-length : tie.Need-same-length
 same-length c = search needs
 
 returns : tie.Need-returns
-unfolding askedPath pathOutcome
+unfolding pathOutcome
 returns c =
     let brief = c .before .before .before .before .before in
     let fine = brief .before in
     let input = fine .before .before in
+    let taken = input .before .before .before .before in
+    let a = taken .before .before .before .before .before .before .before .before .args in
+    let lent = lentOf (a .starts .now) (a .numbers .now) (a .times .now) (a .xs .now) (a .ys .now) in
     rw (
-      ← input .before .before .before .before .lent-hints .ensures,
-      input-found input ∙ fine .enum-told .given .1,
+      asked-fine (a .p) (a .agent) (a .arrival) (a .budget) (a .hints .now) lent (taken .lent-hints .ensures)
+          (input-found input ∙ fine .enum-told .given .1),
       sym (brief .is-brief .ensures) ∙ c .before .before .before .before .if1 .taken,
     )
     (c .before .before .refuse2 .ensures)
 
 path-among-requires : tie.Need-path-among-requires
 path-among-requires c κs =
-    let fine = c .before .before .before in
+    let fine = c .before .before .before .before in
     let input = fine .before .before in
-    let a = input .before .before .before .before .before .before .before .before .before .before .before .args in
+    let taken = input .before .before .before .before in
+    let a = taken .before .before .before .before .before .before .before .before .args in
     let lent = lentOf (a .starts .now) (a .numbers .now) (a .times .now) (a .xs .now) (a .ys .now) in
     fine-starts (a .p) (a .agent) lent
-    (numbers-fine _ _ (lent-fine _ _ (input-found input ∙ fine .enum-told .given .1)))
+    (numbers-fine _ _ (taken-fine (taken .lent-hints .result) _ (input-found input ∙ fine .enum-told .given .1)))
 
 same-length-2 : tie.Need-same-length-2
 same-length-2 c = search needs
 
 returns-2 : tie.Need-returns-2
-unfolding askedPath pathOutcome
+unfolding pathOutcome
 returns-2 c =
     let refused = c .before .before .before .before .before in
     let input = refused .before .before in
-    rw (← input .before .before .before .before .lent-hints .ensures, input-found input ∙ refused .input .given .1)
+    let taken = input .before .before .before .before in
+    let a = taken .before .before .before .before .before .before .before .before .args in
+    let lent = lentOf (a .starts .now) (a .numbers .now) (a .times .now) (a .xs .now) (a .ys .now) in
+    rw
+    (asked-refused (a .p) (a .agent) (a .arrival) (a .budget) (a .hints .now) lent (taken .lent-hints .ensures) _
+    (input-found input ∙ refused .input .given .1))
     (c .before .before .refuse .ensures)
 
 same-length-3 : tie.Need-same-length-3
 same-length-3 c = search needs
 
 returns-3 : tie.Need-returns-3
-unfolding askedPath
 returns-3 c =
-    let brief = c .before .before .before .before .before in
+    let brief = c .before .before .before .before .before .before in
     let fine = brief .before in
     let input = fine .before .before in
+    let taken = input .before .before .before .before in
+    let a = taken .before .before .before .before .before .before .before .before .args in
+    let lent = lentOf (a .starts .now) (a .numbers .now) (a .times .now) (a .xs .now) (a .ys .now) in
     rw (
-      ← input .before .before .before .before .lent-hints .ensures,
-      input-found input ∙ fine .enum-told .given .1,
-      sym (brief .is-brief .ensures) ∙ c .before .before .before .before .if1 .left,
+      asked-fine (a .p) (a .agent) (a .arrival) (a .budget) (a .hints .now) lent (taken .lent-hints .ensures)
+          (input-found input ∙ fine .enum-told .given .1),
+      sym (brief .is-brief .ensures) ∙ c .before .before .before .before .before .if1 .left,
     )
     (c .before .before .path-among .ensures)
 
@@ -119,7 +133,7 @@ arrival-path-spec =
     is-asked-requires
     examine-requires
     with-numbers-requires
-    with-lent-requires
+    with-taken-requires
     enum-known-input
     refuse-requires
     enum-told

@@ -2,12 +2,16 @@
 -- Assumes nothing.
 use Prim.Native.Nat.{ℕ, _≤_}
 use mathlib.Core.Path.{_≡_, sym, ap, _∙_}
+use mathlib.Core.List.{List}
 use native.Mathlib.Omega.{arith}
 use borrow.Author.Needs.{needs}
+use lib.ListN.{length}
 use Rattle.patterns.specs.Word.{wordOf}
 use Rattle.numbers.specs.declared.time.Duration.{Duration}
 use Rattle.patterns.proofs.ReadBack.{read-back}
-use Rattle.ranking.specs.Hints.{rankedHeld}
+use Rattle.waits.specs.Words.{hintsIn}
+use Rattle.waits.specs.declared.hint.RankedHint.{RankedHint}
+use Rattle.waits.proofs.Reading.{few, counted}
 use Rattle.obstacles.specs.Lent.{lentOf, obstaclesWith}
 use Rattle.obstacles.specs.Boxes.{boxIn}
 use Rattle.arrival_paths.specs.Path.{Sought, pathFor}
@@ -43,25 +47,27 @@ put-row-requires-2 : tie.Need-put-row-requires-2
 put-row-requires-2 c κs = search needs
 
 -- A path has few actions.
-few : (c : tie.After-compute-safe-arrival-path) (many pops : ℕ) (hold : Duration) →
+few-actions : (c : tie.After-compute-safe-arrival-path) (many pops : ℕ) (hold : Duration) →
     c .compute-safe-arrival-path .result ≡ F.Path many pops hold → many ≤ 129
-few c many pops hold e =
+few-actions c many pops hold e =
     let a = c .before .before .before .before .before .before .before .before .args in
     let lent = lentOf (a .starts .now) (a .numbers .now) (a .times .now) (a .xs .now) (a .ys .now) in
     let os = obstaclesWith lent (boxIn (a .boxes .now)) in
-    let path : Sought = pathFor (a .trip) os (rankedHeld (a .hints)) (a .budget) (a .arrival) in
+    let hints : List RankedHint = hintsIn (a .hints .now) in
+    let path : Sought = pathFor (a .trip) os hints (a .budget) (a .arrival) in
+    let room : length hints ≤ 64 = omega (arith, few (a .hints .now), counted (a .hints .now)) in
     let found = sym (c .compute-safe-arrival-path .ensures .found) ∙ e in
     let is = path-is path many pops hold found in
     omega (
       arith,
       path-counts path many pops hold found,
-      path-short (a .trip) os (rankedHeld (a .hints)) (a .budget) (a .arrival) (actionsIn path) pops hold is,
+      path-short (a .trip) os hints room (a .budget) (a .arrival) (actionsIn path) pops hold is,
     )
 
 add-settle : tie.Need-add-settle
 add-settle c =
     let found = c .before .before .before .before .before .before .before .before in
-    omega (arith, few (found .before .before .before .before) _ _ _ (found .found3 .given .1))
+    omega (arith, few-actions (found .before .before .before .before) _ _ _ (found .found3 .given .1))
 
 settle-requires-2 : tie.Need-settle-requires-2
 settle-requires-2 c κs = search needs

@@ -1,11 +1,13 @@
 -- `paths::trying::find_chain` meets its contract: by the first root, which is missing, a hint's, or past the hints.
 -- Assumes nothing.
 use Prim.Native.Nat.{_≤_, _<_}
+use mathlib.Core.Path.{refl}
 use native.Mathlib.Omega.{arith}
 use borrow.Author.Needs.{needs}
 use borrow.Author.Tests.{le-leb, lt-leb, lt-ltb, le-ltb}
 use lib.ListN.{length}
-use Rattle.ranking.specs.Hints.{rankedHeld}
+use Rattle.waits.specs.Words.{hintsIn}
+use Rattle.waits.proofs.Reading.{counted}
 use Rattle.chains.specs.Recursive.{recursiveSearch}
 use Rattle.paths.specs.Trying.{chainFrom}
 use Rattle.paths.proofs.trying.find_chain.Statement.{statement}
@@ -22,10 +24,10 @@ ended-requires c κs = search needs
 
 returns : tie.Need-returns
 unfolding chainFrom recursiveSearch
-returns c = rw (c .before .enum-told .given .1) (c .ended .ensures)
+returns c = rw (c .before .enum-told .given .1) (record { answer = c .ended .ensures; links = refl })
 
-len-requires : tie.Need-len-requires
-len-requires c κs = search needs
+count-of-requires : tie.Need-count-of-requires
+count-of-requires c κs = search needs
 
 try-roots-requires : tie.Need-try-roots-requires
 try-roots-requires c κs = search needs
@@ -33,10 +35,10 @@ try-roots-requires c κs = search needs
 returns-2 : tie.Need-returns-2
 unfolding chainFrom recursiveSearch
 returns-2 c =
-    let n = c .before .before in
+    let n = c .before .before .before in
     let f = n .before .before .first in
     let a = n .before .before .before .before .before .before .before .before .before .args in
-    let there : f .given .0 .0 < length (rankedHeld (a .hints)) = omega (arith, n .len .ensures) in
+    let there : f .given .0 .0 < length (hintsIn (a .hints .now)) = omega (arith, counted (a .hints .now)) in
     rw (f .given .1, lt-ltb _ _ there) (c .try-roots .ensures)
 
 ended-requires-2 : tie.Need-ended-requires-2
@@ -48,9 +50,9 @@ returns-3 c =
     let n = c .before .before .before in
     let f = n .before .before .first in
     let a = n .before .before .before .before .before .before .before .before .before .args in
-    let past : length (rankedHeld (a .hints)) ≤ f .given .0 .0 = omega (arith, n .len .ensures) in
+    let past : length (hintsIn (a .hints .now)) ≤ f .given .0 .0 = omega (arith, counted (a .hints .now)) in
     let spent : a .budget ≤ 0 = omega arith in
-    rw (f .given .1, le-ltb _ _ past, le-leb (a .budget) 0 spent) (c .ended2 .ensures)
+    rw (f .given .1, le-ltb _ _ past, le-leb (a .budget) 0 spent) (record { answer = c .ended2 .ensures; links = refl })
 
 ended-requires-3 : tie.Need-ended-requires-3
 ended-requires-3 c κs = search needs
@@ -61,9 +63,9 @@ returns-4 c =
     let n = c .before .before .before in
     let f = n .before .before .first in
     let a = n .before .before .before .before .before .before .before .before .before .args in
-    let past : length (rankedHeld (a .hints)) ≤ f .given .0 .0 = omega (arith, n .len .ensures) in
+    let past : length (hintsIn (a .hints .now)) ≤ f .given .0 .0 = omega (arith, counted (a .hints .now)) in
     let some-left : 0 < a .budget = omega arith in
-    rw (f .given .1, le-ltb _ _ past, lt-leb (a .budget) 0 some-left) (c .ended3 .ensures)
+    rw (f .given .1, le-ltb _ _ past, lt-leb (a .budget) 0 some-left) (record { answer = c .ended3 .ensures; links = refl })
 
 pub find-chain-spec : {M : Type 1} → statement M
 find-chain-spec =
@@ -73,7 +75,7 @@ find-chain-spec =
     enum-told
     ended-requires
     returns
-    len-requires
+    count-of-requires
     try-roots-requires
     returns-2
     ended-requires-2

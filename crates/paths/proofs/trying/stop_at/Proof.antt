@@ -2,21 +2,21 @@
 -- Assumes nothing.
 use mathlib.Core.Path.{ap, _∙_}
 use borrow.Author.Needs.{needs}
-use Rattle.ranking.specs.declared.order.RankedHint.{RankedHint}
+use Rattle.waits.specs.declared.hint.RankedHint.{RankedHint}
 use Rattle.ways.specs.Travel.{hintWaypoint}
 use Rattle.paths.specs.Trying.{stopIn}
 use Rattle.paths.proofs.trying.stop_at.Statement.{statement}
 use Rattle.paths.proofs.trying.stop_at.Tie as tie
 
-at-requires : tie.Need-at-requires
-at-requires c κs = search needs
+hint-at-requires : tie.Need-hint-at-requires
+hint-at-requires c κs = search needs
 
 waypoint-of-requires : tie.Need-waypoint-of-requires
 waypoint-of-requires c κs = search needs
 
 returns : tie.Need-returns
 unfolding stopIn
-returns c = c .waypoint-of .ensures ∙ ap (λ (h : RankedHint). hintWaypoint (h .hint)) (c .before .before .at .ensures)
+returns c = c .waypoint-of .ensures ∙ ap (λ (h : RankedHint). hintWaypoint (h .hint)) (c .before .before .hint-at .ensures)
 
 pub stop-at-spec : {M : Type 1} → statement M
-stop-at-spec = tie.close (tie.spec at-requires waypoint-of-requires returns)
+stop-at-spec = tie.close (tie.spec hint-at-requires waypoint-of-requires returns)

@@ -1,7 +1,7 @@
 -- `paths::trying::try_roots` meets its contract: the search from the root that the loop is at is the search from the first.
 -- Assumes nothing.
 use Prim.Native.Nat.{ℕ, _-_, _<_, _≤_}
-use mathlib.Core.Path.{_≡_, refl, sym, ap, _∙_}
+use mathlib.Core.Path.{_≡_, refl, sym, _∙_}
 use mathlib.Core.List.{List}
 use native.Mathlib.Omega.{arith}
 use borrow.Author.Needs.{needs}
@@ -9,41 +9,46 @@ use lib.ListN.{length}
 use Rattle.obstacles.specs.Obstacle.{Obstacle}
 use Rattle.obstacles.specs.Lent.{lentOf, obstaclesWith}
 use Rattle.obstacles.specs.Boxes.{boxIn}
-use Rattle.ranking.specs.Hints.{rankedHeld}
-use Rattle.ranking.specs.declared.order.RankedHint.{RankedHint}
+use Rattle.waits.specs.Words.{hintsIn}
+use Rattle.waits.specs.declared.hint.RankedHint.{RankedHint}
+use Rattle.waits.proofs.Reading.{counted}
 use Rattle.ways.specs.declared.trip.Trip.{Trip}
 use Rattle.chains.specs.Answer.{Chained}
-use Rattle.chains.specs.Recursive.{tryRoots}
-use Rattle.chains.specs.Handed.{answered}
-use Rattle.chains.proofs.Steps.{at-end, root-answers, root-next}
+use Rattle.chains.proofs.Steps.{roots-end, root-answers, root-next}
 use Rattle.chains.proofs.Else.{not-blocked}
-use Rattle.paths.specs.Trying.{toParent, startsAt, reaches}
+use Rattle.paths.specs.Trying.{toParent, startsAt, reaches, rootsTried}
 use Rattle.paths.proofs.trying.try_roots.Statement.{statement}
 use Rattle.paths.proofs.trying.try_roots.Tie as tie
 
 -- The search from root r on, with the pops made.
 abbrev rootsFrom : Trip → List Obstacle → List RankedHint → ℕ → ℕ → ℕ → Chained
-rootsFrom trip os hints budget r pops =
-    tryRoots (toParent trip os hints) (startsAt trip os hints) (reaches hints) budget (length hints - r) r pops
+rootsFrom trip os hints budget r pops = rootsTried trip os hints budget (length hints - r) r pops
 
 abbrev Inv-loop : tie.InvT-loop
-Inv-loop trip hints budget starts numbers times xs ys boxes from count root₀ pops₀ root pops =
+Inv-loop trip hints budget starts numbers times xs ys boxes chain₀ from count root₀ pops₀ chain root pops =
     let os = obstaclesWith (lentOf starts numbers times xs ys) (boxIn boxes) in
-    rootsFrom trip os (rankedHeld hints) budget root pops ≡ rootsFrom trip os (rankedHeld hints) budget from 0
+    (chain ≡ chain₀) × (rootsFrom trip os (hintsIn hints) budget root pops ≡ rootsFrom trip os (hintsIn hints) budget from 0)
 
 abbrev μ-loop : tie.MeasureT-loop
-μ-loop trip hints budget starts numbers times xs ys boxes from count root₀ pops₀ root pops = count - root
+μ-loop trip hints budget starts numbers times xs ys boxes chain₀ from count root₀ pops₀ chain root pops = count - root
 
 abbrev obstacles : tie.Start Inv-loop μ-loop → List Obstacle
 obstacles s =
     let a = s .args in
     obstaclesWith (lentOf (a .starts .now) (a .numbers .now) (a .times .now) (a .xs .now) (a .ys .now)) (boxIn (a .boxes .now))
 
-len-requires : tie.Need-len-requires Inv-loop μ-loop
-len-requires c κs = search needs
+-- The loop's bound is the number of hints.
+bound : (c : tie.After-count-of Inv-loop μ-loop) →
+    let s = c .before .before .before .before .before .before in
+    length (hintsIn (s .args .hints .now)) ≡ c .count-of .result
+bound c =
+    let s = c .before .before .before .before .before .before in counted (s .args .hints .now) ∙ sym (c .count-of .ensures)
+
+count-of-requires : tie.Need-count-of-requires Inv-loop μ-loop
+count-of-requires c κs = search needs
 
 loop-holds : tie.Need-loop-holds Inv-loop μ-loop
-loop-holds c = refl
+loop-holds c = (refl, refl)
 
 try-hint-requires : tie.Need-try-hint-requires Inv-loop μ-loop
 try-hint-requires c κs = search needs
@@ -54,15 +59,15 @@ enum-told c = search needs
 returns : tie.Need-returns Inv-loop μ-loop
 returns c =
     let h = c .before .try-hint in
-    let l = c .before .before .before .loop in
-    let n = c .before .before .before .before in
+    let l = c .before .before .before .before .loop in
+    let n = c .before .before .before .before .before in
     let s = n .before .before .before .before .before .before in
     let a = s .args in
-    let hints = rankedHeld (a .hints) in
-    let there : l .root < length hints = omega (arith, n .len .ensures) in
-    root-answers (toParent (a .trip) (obstacles s) hints) (startsAt (a .trip) (obstacles s) hints) (reaches hints) (a .budget)
-    (length hints) (l .root) (l .pops) there (h .result) (h .ensures) (not-blocked (h .result .ending) (c .match .keys2)) ∙
-    ap answered (l .inv)
+    let hints = hintsIn (a .hints .now) in
+    let there : l .root < length hints = omega (arith, bound n) in
+    rw (sym (l .inv .1), sym (l .inv .0))
+    (root-answers (toParent (a .trip) (obstacles s) hints) (startsAt (a .trip) (obstacles s) hints) (reaches hints) (a .budget)
+    (length hints) (l .root) (l .pops) there (h .ensures) (not-blocked (h .result .ending) (c .match .keys2)))
 
 add-root : tie.Need-add-root Inv-loop μ-loop
 add-root c = omega arith
@@ -73,16 +78,16 @@ loop-less c = omega arith
 loop-again : tie.Need-loop-again Inv-loop μ-loop
 loop-again c =
     let h = c .before .before .try-hint in
-    let l = c .before .before .before .before .loop in
-    let n = c .before .before .before .before .before in
+    let l = c .before .before .before .before .before .loop in
+    let n = c .before .before .before .before .before .before in
     let s = n .before .before .before .before .before .before in
     let a = s .args in
-    let hints = rankedHeld (a .hints) in
-    let there : l .root < length hints = omega (arith, n .len .ensures) in
-    sym
-    (root-next (toParent (a .trip) (obstacles s) hints) (startsAt (a .trip) (obstacles s) hints) (reaches hints) (a .budget)
-    (length hints) (l .root) (l .pops) there (h .result) (h .ensures) (c .enum-told .given .1)) ∙
-    l .inv
+    let hints = hintsIn (a .hints .now) in
+    let there : l .root < length hints = omega (arith, bound n, c .before .before .before .before .loop-test .taken) in
+    let up =
+    root-next (toParent (a .trip) (obstacles s) hints) (startsAt (a .trip) (obstacles s) hints) (reaches hints) (a .budget)
+    (length hints) (l .root) (l .pops) there (h .ensures) (c .enum-told .given .1) in
+    (up .1 ∙ l .inv .0, sym (up .0) ∙ l .inv .1)
 
 ended-requires : tie.Need-ended-requires Inv-loop μ-loop
 ended-requires c κs = search needs
@@ -93,14 +98,12 @@ returns-2 c =
     let n = c .before .before .before in
     let s = n .before .before .before .before .before .before in
     let a = s .args in
-    let hints = rankedHeld (a .hints) in
-    let past : length hints ≤ l .root = omega (arith, n .len .ensures) in
-    c .ended .ensures ∙
-    ap answered
-    (sym
-    (at-end (toParent (a .trip) (obstacles s) hints) (startsAt (a .trip) (obstacles s) hints) (reaches hints) (a .budget)
-    (length hints) (l .root) (l .pops) past) ∙
-    l .inv)
+    let hints = hintsIn (a .hints .now) in
+    let past : length hints ≤ l .root = omega (arith, bound n) in
+    let end =
+    roots-end (toParent (a .trip) (obstacles s) hints) (startsAt (a .trip) (obstacles s) hints) (reaches hints) (a .budget)
+    (length hints) (l .root) (l .pops) past in
+    rw (sym (l .inv .1) ∙ end) (record { answer = c .ended .ensures; links = l .inv .0 })
 
 pub try-roots-spec : {M : Type 1} → statement M
 try-roots-spec =
@@ -108,7 +111,7 @@ try-roots-spec =
     (tie.spec
     Inv-loop
     μ-loop
-    len-requires
+    count-of-requires
     loop-holds
     try-hint-requires
     enum-told

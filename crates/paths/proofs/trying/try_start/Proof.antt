@@ -1,11 +1,8 @@
 -- `paths::trying::try_start` meets its contract: by the test of the own start, a chain of the hint alone, no way, or a refusal.
 -- Assumes nothing.
-use mathlib.Core.Path.{sym, ap, _∙_}
-use mathlib.Core.List.{[]}
+use mathlib.Core.Path.{refl}
 use borrow.Author.Needs.{needs}
-use Rattle.chains.specs.declared.tried.Tried.{Tried}
-use Rattle.chains.specs.Handed.{ontoChain}
-use Rattle.chains.proofs.Links.{one-link}
+use Rattle.chains.specs.Links.{linkedBy}
 use Rattle.paths.specs.Trying.{startsAt}
 use Rattle.paths.proofs.trying.try_start.Statement.{statement}
 use Rattle.paths.proofs.trying.try_start.Tie as tie
@@ -19,11 +16,11 @@ from-start-requires c κs = search needs
 enum-told : tie.Need-enum-told
 enum-told c = search needs
 
+add-link-requires : tie.Need-add-link-requires
+add-link-requires c κs = search needs
+
 ended-requires : tie.Need-ended-requires
 ended-requires c κs = search needs
-
-with-link-requires : tie.Need-with-link-requires
-with-link-requires c κs = search needs
 
 enum-told-2 : tie.Need-enum-told-2
 enum-told-2 c = search needs
@@ -38,24 +35,25 @@ ended-requires-3 : tie.Need-ended-requires-3
 ended-requires-3 c κs = search needs
 
 returns : tie.Need-returns
-unfolding startsAt
+unfolding startsAt linkedBy
 returns c =
-    let s = c .before .before .before .before in
-    let a = s .before .before .before .before .before .before .before .args in
-    rw (← s .before .stop-at .ensures, ← s .from-start .ensures, c .before .before .enum-told .given .1)
-    (c .with-link .ensures ∙ ap (λ (t : Tried). ontoChain t (a .i)) (c .before .ended .ensures) ∙ sym (one-link [] (a .i) (a .pops)))
+    let s = c .before .before .before .before .before in
+    rw (← s .before .stop-at .ensures, ← s .from-start .ensures, c .before .before .before .enum-told .given .1)
+    (record { answer = c .ended .ensures; links = c .before .add-link .ensures })
 
 returns-2 : tie.Need-returns-2
 unfolding startsAt
 returns-2 c =
     let s = c .before .before .before in
-    rw (← s .before .stop-at .ensures, ← s .from-start .ensures, c .before .enum-told2 .given .1) (c .ended2 .ensures)
+    rw (← s .before .stop-at .ensures, ← s .from-start .ensures, c .before .enum-told2 .given .1)
+    (record { answer = c .ended2 .ensures; links = refl })
 
 returns-3 : tie.Need-returns-3
 unfolding startsAt
 returns-3 c =
     let s = c .before .before .before .before in
-    rw (← s .before .stop-at .ensures, ← s .from-start .ensures, c .before .before .trial .given .1) (c .ended3 .ensures)
+    rw (← s .before .stop-at .ensures, ← s .from-start .ensures, c .before .before .trial .given .1)
+    (record { answer = c .ended3 .ensures; links = refl })
 
 pub try-start-spec : {M : Type 1} → statement M
 try-start-spec =
@@ -64,8 +62,8 @@ try-start-spec =
     stop-at-requires
     from-start-requires
     enum-told
+    add-link-requires
     ended-requires
-    with-link-requires
     enum-told-2
     ended-requires-2
     enum-known-trial

@@ -1,6 +1,7 @@
 -- `planning::linear_paths::plan_paths` meets its contract: the refusal of a path, or all paths behind the row that counts them.
 -- Assumes nothing.
 use native.Mathlib.Omega.{arith}
+use Rattle.waits.proofs.Reading.{counted}
 use Rattle.plans.specs.Plan.{pathsPlanned}
 use Rattle.planning.proofs.Fewer.{times-count, found-few}
 use Rattle.plans.proofs.Handing.{paths-refused, paths-put}
@@ -20,8 +21,8 @@ refuse-requires c κs = search needs
 enum-known-put-2 : tie.Need-enum-known-put-2
 enum-known-put-2 c = search needs
 
-len-requires : tie.Need-len-requires
-len-requires c κs = search needs
+count-of-requires : tie.Need-count-of-requires
+count-of-requires c κs = search needs
 
 put-row-requires : tie.Need-put-row-requires
 put-row-requires c κs = search needs
@@ -65,7 +66,7 @@ returns-2 c =
     let s = call .before .before .before .before .before .before .before .before .before .before in
     let times = times-count (s .args .list .now) (s .args .count) (s .pre .1) in
     paths-put _ _ (s .args .sweeps) (call .put-paths .ensures) (put .put2 .given .1)
-    (rw (times, ← row .before .before .len .ensures) (row .put-row .ensures))
+    (rw (times, counted (s .args .hints .now), ← row .before .before .count-of .ensures) (row .put-row .ensures))
     (c .before .before .before .before .settle .ensures)
 
 pub plan-paths-spec : {M : Type 1} → statement M
@@ -76,7 +77,7 @@ plan-paths-spec =
     enum-known-put
     refuse-requires
     enum-known-put-2
-    len-requires
+    count-of-requires
     put-row-requires
     add-settle
     settle-requires

@@ -1,17 +1,19 @@
--- `planning::linear_paths::put_paths` meets its contract: at each turn the paths found so far, with those for the arrival times from
--- here on behind them, are all.
+-- `planning::linear_paths::put_paths` meets its contract: at each turn the paths found so far, with those for the arrival times
+-- from here on behind them, are all.
 -- Assumes nothing.
-use Prim.Native.Nat.{_-_}
+use Prim.Native.Nat.{ℕ, _-_, _≤_}
 use mathlib.Core.Path.{_≡_, _∙_}
+use mathlib.Core.List.{List}
 use native.Mathlib.Omega.{arith}
 use borrow.Author.Needs.{needs}
 use lib.IntN.{pos}
-use lib.ListN.{getD}
+use lib.ListN.{length, getD}
 use Rattle.numbers.specs.declared.time.TimePoint.{TimePoint}
 use Rattle.patterns.proofs.ReadBack.{read, read-back}
 use Rattle.obstacles.specs.Lent.{lentOf, obstaclesWith}
 use Rattle.obstacles.specs.Boxes.{boxIn}
-use Rattle.ranking.specs.Hints.{rankedHeld}
+use Rattle.waits.specs.Words.{hintsIn}
+use Rattle.waits.proofs.Reading.{few, counted}
 use Rattle.arrival_paths.specs.Path.{pathFor}
 use Rattle.arrival_paths.specs.Laid.{PutPath}
 use Rattle.planning.proofs.Keeping.{Kept, kept-start, kept-long, kept-long-actions, kept-end}
@@ -22,11 +24,15 @@ use Rattle.planning.proofs.linear_paths.put_paths.Tie as tie
 abbrev Inv-loop : tie.InvT-loop
 Inv-loop trip hints budget list count starts numbers times xs ys boxes paths₀ actions₀ found₀ row₀ i₀ paths actions found row i =
     let os = obstaclesWith (lentOf starts numbers times xs ys) (boxIn boxes) in
-    Kept trip os (rankedHeld hints) budget list count paths₀ actions₀ i found row paths actions
+    Kept trip os (hintsIn hints) budget list count paths₀ actions₀ i found row paths actions
 
 abbrev μ-loop : tie.MeasureT-loop
 μ-loop trip hints budget list count starts numbers times xs ys boxes paths₀ actions₀ found₀ row₀ i₀ paths actions found row i =
     count - i
+
+-- A list of words has at most 64 hints.
+few-hints : (words : List ℕ) → length (hintsIn words) ≤ 64
+few-hints words = omega (arith, few words, counted words)
 
 -- The arrival time at i is what is read there.
 as-read : (c : tie.After-compute-safe-arrival-path Inv-loop μ-loop) →
@@ -45,7 +51,7 @@ put : (c : tie.After-compute-safe-arrival-path Inv-loop μ-loop) →
     let t : TimePoint = record { 0 = getD (a .list .now) (l .loop .i) (pos 0) } in
     let call = c .compute-safe-arrival-path in
     let left = call .last .1 .1 .1 .1 .1 .1 .1 .1 .1 .1 .0 in
-    PutPath (pathFor (a .trip) os (rankedHeld (a .hints)) (a .budget) t) (l .loop .actions) left (l .loop .row) (call .result)
+    PutPath (pathFor (a .trip) os (hintsIn (a .hints .now)) (a .budget) t) (l .loop .actions) left (l .loop .row) (call .result)
 put c = rw (as-read c) at (c .compute-safe-arrival-path .ensures)
 
 loop-holds : tie.Need-loop-holds Inv-loop μ-loop
@@ -125,7 +131,8 @@ add-row c =
     let s = test .before .before .before .before .before .before .before .before .before in
     let known = c .before .before .before .before .before in
     let k = test .before .loop .inv in
-    let more = path-few k (test .loop-test .taken) (s .pre .1) (put call) (known .path3 .given .1) in
+    let hints = few-hints (s .args .hints .now) in
+    let more = path-few k (test .loop-test .taken) (s .pre .1) (put call) hints (known .path3 .given .1) in
     omega (arith, s .pre, test .loop-test .taken, k .few)
 
 add-i-2 : tie.Need-add-i-2 Inv-loop μ-loop
@@ -143,7 +150,8 @@ loop-again-2 c =
     let test = call .before .before .before in
     let s = test .before .before .before .before .before .before .before .before .before in
     let known = c .before .before .before .before .before in
-    kept-path (test .before .loop .inv) (test .loop-test .taken) (s .pre .1) (put call) (known .path3 .given .1)
+    kept-path (test .before .loop .inv) (test .loop-test .taken) (s .pre .1) (put call) (few-hints (s .args .hints .now))
+    (known .path3 .given .1)
     (rw (as-read call) at (c .before .before .put-path .ensures))
 
 same-length-3 : tie.Need-same-length-3 Inv-loop μ-loop

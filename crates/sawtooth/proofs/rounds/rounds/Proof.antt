@@ -1,29 +1,33 @@
--- `sawtooth::rounds::rounds` meets its contract: at each turn the rounds from here on are all of them.
+-- `sawtooth::rounds::rounds` meets its contract: at each turn what the rounds from here on add, all of them add.
 -- Assumes nothing.
-use Prim.Native.Nat.{_-_}
-use mathlib.Core.Path.{_≡_, refl}
-use mathlib.Core.Bool.{true}
+use Prim.Native.Nat.{ℕ, _-_}
+use mathlib.Core.Path.{_≡_}
+use mathlib.Core.List.{List}
 use native.Mathlib.Omega.{arith}
 use borrow.Author.Needs.{needs}
-use Rattle.waits.specs.Hints.{isGoing, withHint}
-use Rattle.waits.proofs.Storing.{going, ended, count-with-hint}
+use Rattle.waits.specs.Hints.{Hints, oneHint}
+use Rattle.waits.specs.Adding.{Added}
+use Rattle.waits.specs.declared.hint_list.Filled.{Filled}
+use Rattle.waits.specs.declared.hint_list.Filled.the-variants as F
+use Rattle.waits.proofs.Added.{added-then, added-ended}
 use Rattle.sawtooth.specs.Rounds.{roundOf, roundsFrom}
 use Rattle.sawtooth.specs.declared.rounds.Round.{Round}
-use Rattle.sawtooth.specs.declared.rounds.Round.the-variants.{Strayed}
-use Rattle.sawtooth.proofs.Going.{rounds-next, rounds-refused, rounds-last, rounds-strayed}
+use Rattle.sawtooth.proofs.Stored.{one-more}
+use Rattle.sawtooth.proofs.Bound.{one-round}
 use Rattle.sawtooth.proofs.rounds.rounds.Statement.{statement}
 use Rattle.sawtooth.proofs.rounds.rounds.Tie as tie
 
 abbrev Inv-loop : tie.InvT-loop
-Inv-loop agent leg chase obstacle s t found₀ s1₀ t1₀ found s1 t1 =
-    roundsFrom agent leg chase obstacle found s1 t1 ≡ roundsFrom agent leg chase obstacle found₀ s t
+Inv-loop agent leg chase obstacle s t hints₀ n m₀ s1₀ t1₀ hints m s1 t1 =
+    (left : List ℕ) (r : Filled) → Added (roundsFrom agent leg chase obstacle m s1 t1) m hints left r →
+    Added (roundsFrom agent leg chase obstacle n s t) n hints₀ left r
 
 -- The room that is left: each turn that goes on has stored a hint, since one that finds no room is refused.
 abbrev μ-loop : tie.MeasureT-loop
-μ-loop agent leg chase obstacle s t found₀ s1₀ t1₀ found s1 t1 = 64 - found .count
+μ-loop agent leg chase obstacle s t hints₀ n m₀ s1₀ t1₀ hints m s1 t1 = 64 - m
 
 loop-holds : tie.Need-loop-holds Inv-loop μ-loop
-loop-holds c = refl
+loop-holds c = λ left r a. a
 
 round-from-requires : tie.Need-round-from-requires Inv-loop μ-loop
 round-from-requires c κs = search needs
@@ -31,8 +35,8 @@ round-from-requires c κs = search needs
 enum-told : tie.Need-enum-told Inv-loop μ-loop
 enum-told c = search needs
 
-refused-by-requires : tie.Need-refused-by-requires Inv-loop μ-loop
-refused-by-requires c κs = search needs
+refuse-requires : tie.Need-refuse-requires Inv-loop μ-loop
+refuse-requires c κs = search needs
 
 -- What the code finds the round to be is what it is.
 round-found : (c : tie.After-round-from Inv-loop μ-loop) (r : Round) → c .round-from .result ≡ r →
@@ -43,10 +47,10 @@ round-found c r e = rw (← c .round-from .ensures) e
 
 returns : tie.Need-returns Inv-loop μ-loop
 returns c =
-    let turn = c .before .before .before in
+    let turn = c .before .before .before .before in
     let l = turn .before .loop in
-    let strayed = round-found turn Strayed (c .before .enum-told .given .1) in
-    rw (← l .inv, rounds-strayed _ _ _ _ (l .found) _ _ strayed) (c .refused-by .ensures)
+    let strayed = round-found turn _ (c .before .before .enum-told .given .1) in
+    l .inv _ _ (rw (one-round _ _ _ _ (l .m) (l .s1) (l .t1), strayed) (c .refuse .ensures))
 
 enum-known-turn : tie.Need-enum-known-turn Inv-loop μ-loop
 enum-known-turn c = search needs
@@ -56,11 +60,11 @@ with-hint-requires c κs = search needs
 
 returns-2 : tie.Need-returns-2 Inv-loop μ-loop
 returns-2 c =
-    let told = c .before .before in
+    let told = c .before .before .before in
     let turn = told .before .before in
     let l = turn .before .loop in
     let last = round-found turn _ (told .turn .given .1) in
-    rw (← l .inv, rounds-last _ _ _ _ (l .found) _ _ _ last) (c .with-hint .ensures)
+    l .inv _ _ (rw (one-round _ _ _ _ (l .m) (l .s1) (l .t1), last) (c .with-hint .ensures))
 
 enum-known-turn-2 : tie.Need-enum-known-turn-2 Inv-loop μ-loop
 enum-known-turn-2 c = search needs
@@ -68,37 +72,45 @@ enum-known-turn-2 c = search needs
 with-hint-requires-2 : tie.Need-with-hint-requires-2 Inv-loop μ-loop
 with-hint-requires-2 c κs = search needs
 
+enum-known-filled : tie.Need-enum-known-filled Inv-loop μ-loop
+enum-known-filled c = search needs
+
+enum-told-2 : tie.Need-enum-told-2 Inv-loop μ-loop
+enum-told-2 c = search needs
+
 returns-3 : tie.Need-returns-3 Inv-loop μ-loop
 returns-3 c =
-    let found = c .before .before in
-    let told = found .before .before in
+    let filled = c .before .before in
+    let told = filled .before .before .before in
     let turn = told .before .before in
     let l = turn .before .loop in
     let next = round-found turn _ (told .turn2 .given .1) in
-    let over = rw (found .with-hint2 .ensures) at (ended (found .with-hint2 .result) (c .if1 .taken)) in
-    rw (← l .inv, rounds-refused _ _ _ _ (l .found) _ _ _ _ _ next over) (found .with-hint2 .ensures)
+    let refused = rw (c .enum-told2 .given .1) at (filled .with-hint2 .ensures) in
+    rw (c .enum-told2 .given .1)
+    (l .inv _ _ (rw (one-round _ _ _ _ (l .m) (l .s1) (l .t1), next) (added-ended _ _ _ _ refused)))
 
--- The search goes on, so the hint was stored.
-is-stored : (c : tie.Else1 Inv-loop μ-loop) →
-    let told = c .before .before .before .before in
-    isGoing (withHint (told .before .before .before .loop .found) (told .turn2 .given .0 .0)) ≡ true
-is-stored c =
-    let found = c .before .before .with-hint2 in
-    rw (found .ensures) at (going (found .result) (c .if1 .left))
+-- The hint was stored.
+is-stored : (c : tie.After-filled Inv-loop μ-loop) →
+    let told = c .before .before .before .before .before in
+    let l = told .before .before .before .loop in
+    let left = c .before .before .with-hint2 .last .0 in
+    Added (oneHint (l .m) (told .turn2 .given .0 .0)) (l .m) (l .hints) left (F.Of (c .filled .given .0 .0))
+is-stored c = rw (c .filled .given .1) at (c .before .before .with-hint2 .ensures)
 
 loop-less : tie.Need-loop-less Inv-loop μ-loop
-loop-less c =
-    let told = c .before .before .before .before in
-    let one-more = count-with-hint (told .before .before .before .loop .found) (told .turn2 .given .0 .0) (is-stored c) in
-    rw (c .before .before .with-hint2 .ensures) (omega arith)
+loop-less c = let stored = one-more _ _ _ (is-stored (c .before)) in omega arith
 
 loop-again : tie.Need-loop-again Inv-loop μ-loop
-loop-again c =
-    let told = c .before .before .before .before in
+loop-again c left r rest =
+    let told = c .before .before .before .before .before .before in
     let turn = told .before .before in
     let l = turn .before .loop in
+    let a = turn .before .before .args in
+    let to = told .turn2 .given .0 .1 in
     let next = round-found turn _ (told .turn2 .given .1) in
-    rw (c .before .before .with-hint2 .ensures, ← rounds-next _ _ _ _ (l .found) _ _ _ _ _ next (is-stored c)) (l .inv)
+    let go : ℕ → Hints = λ m. roundsFrom (a .agent) (a .leg) (a .chase) (a .obstacle) m (to .0) (to .1 .0) in
+    l .inv left r
+    (rw (one-round _ _ _ _ (l .m) (l .s1) (l .t1), next) (added-then _ _ _ go (is-stored (c .before)) rest))
 
 pub rounds-spec : {M : Type 1} → statement M
 rounds-spec =
@@ -109,13 +121,15 @@ rounds-spec =
     loop-holds
     round-from-requires
     enum-told
-    refused-by-requires
+    refuse-requires
     returns
     enum-known-turn
     with-hint-requires
     returns-2
     enum-known-turn-2
     with-hint-requires-2
+    enum-known-filled
+    enum-told-2
     returns-3
     loop-less
     loop-again)
