@@ -36,7 +36,7 @@ def whole(text):
 
 def defined():
     """For each question of the definitions what is found, and for some what is ranked, with the contours."""
-    text = (ROOT / "crates" / "worked" / "specs" / "Worked.antt").read_text()
+    text = (ROOT / "crates" / "hint_examples" / "specs" / "Worked.antt").read_text()
     found, ranked = {}, {}
     for call, kind, metres, start, x, y, s, u, v, t, answer in FIELD.findall(text):
         cart = ((whole(s), number(x), number(y)), (whole(t), number(u), number(v)))

@@ -22,7 +22,7 @@ PAGE = "docs/BELIEVE.md"
 # The contracts that people meet: the calls for C and Rust, and what the programs print.
 CALLS = (
     "crates/*_exports/src/*.rt",
-    "crates/answering/src/*.rt",
+    "crates/reply/src/*.rt",
     "crates/plan/src/*.rt",
     "crates/hold_year/src/*.rt",
     "crates/holds/src/*.rt",

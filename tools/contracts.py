@@ -33,8 +33,6 @@ IMPL = re.compile(r"^impl (\w+)[^\n]*\{\n(.*?)^\}", re.M | re.S)
 FUNCTION = re.compile(r"\bfn\s")
 CLAUSE = re.compile(r"\bensures\b")
 BY = {1: "by-clause", 2: "by-clauses"}
-# The rule of an answer that no search finds: its clause holds for all lists of numbers, and no list shows which to take.
-NAMED = {"examining::examine::is_few": "one-family"}
 
 
 class Function(NamedTuple):
@@ -97,7 +95,6 @@ def read_source(contracts, source):
 def theorem(function):
     """The theorem of one function, and its proof."""
     name = function.short
-    answer = f"{NAMED[function.name]} p q" if function.name in NAMED else "search one-answer"
     return f"""
 pub {function.theorem} : Determined {name}-symbol.routine {name}.ended (λ M. {name}.clauses)
 {function.theorem} = record {{
@@ -105,7 +102,7 @@ pub {function.theorem} : Determined {name}-symbol.routine {name}.ended (λ M. {n
   kept = refl;
   free = λ M 𝓤 H A mem run κs a. (tt, id⊢ 𝓤 (emp 𝓤));
   one = λ M 𝓤 H A mem run κs a g g' r r' left left' s s'.
-      {BY[function.clauses]} 𝓤 {name}.ended κs a r r' left left' (λ p q. ({answer}, search one-answer)) s s';
+      {BY[function.clauses]} 𝓤 {name}.ended κs a r r' left left' (λ p q. (search one-answer, search one-answer)) s s';
 }}
 """
 
@@ -113,7 +110,6 @@ pub {function.theorem} : Determined {name}-symbol.routine {name}.ended (λ M. {n
 def page(crate, functions, own=False):
     """The file with the theorems of one crate."""
     lemmas = ", ".join(sorted({BY[function.clauses] for function in functions}))
-    rules = ", ".join(["one-answer", *sorted({NAMED[function.name] for function in functions if function.name in NAMED})])
     lines = [f"-- Each public function of {crate} has one answer and one lent memory. tools/contracts.py writes this file."]
     lines += ["-- Assumes nothing.", "use mathlib.Core.Path.{refl}", "use base.Logic.{id⊢, emp}"]
     for function in functions:
@@ -122,7 +118,7 @@ def page(crate, functions, own=False):
     specs, proofs = ("·specs.specs", "·proofs.proofs") if crate == CLAIM else (".specs", ".proofs")
     where = f"{CLAIM}{proofs}.Facts" if own else f"{CRATE}·proofs.proofs.Rules"
     lines += [f"use Rattle.{CLAIM}{specs}.Determined.{{Determined}}"]
-    lines += [f"use Rattle.{CLAIM}{proofs}.Facts.{{{lemmas}}}", f"use Rattle.{where}.{{{rules}}}"]
+    lines += [f"use Rattle.{CLAIM}{proofs}.Facts.{{{lemmas}}}", f"use Rattle.{where}.{{one-answer}}"]
     return "\n".join(lines) + "\n" + "".join(theorem(function) for function in functions)
 
 

@@ -31,7 +31,7 @@ THEOREM = "-spec"
 # Public functions without a fault of their own, each with the reason.
 TWINS = "an instant's and a span's are the same line, which an edit cannot tell apart; the faults are those of `{}`, all that it calls"
 ELSEWHERE = {
-    f"numbers::time::{kind}::{name}": TWINS.format(called)
+    f"times::time::{kind}::{name}": TWINS.format(called)
     for kind in ("TimePoint", "Duration")
     for name, called in (("is_exact", "is_exact"), ("as_secs_f64", "seconds_of"))
 }

@@ -7,7 +7,7 @@ use mathlib.Core.List.{[], _∷_}
 use types.Run.{OneOf, miss}
 use denote.Enum.Declared.{tagOf}
 use lib.Ieee.{Float}
-use Rattle.numbers.specs.declared.time.TimePoint.{TimePoint}
+use Rattle.times.specs.declared.time.TimePoint.{TimePoint}
 use Rattle.shapes.specs.Box.{overlap}
 use Rattle.shapes.specs.declared.bounding_box.BoundingBox.{BoundingBox}
 use Rattle.shapes.specs.declared.waypoint.Leg.{Leg}

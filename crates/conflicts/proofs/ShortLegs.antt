@@ -7,7 +7,7 @@ use lib.IntN.{ℤ, pos, _-ℤ_}
 use lib.Signed.{ltZ, _≤ℤ_}
 use lib.Ieee.{Float}
 use Rattle.floats.proofs.Tests.{passed}
-use Rattle.numbers.proofs.Integers.{below→at-most, at-most-trans}
+use Rattle.times.proofs.Integers.{below→at-most, at-most-trans}
 use Rattle.shapes.specs.declared.bounding_box.BoundingBox.{BoundingBox}
 use Rattle.shapes.specs.declared.waypoint.Leg.{Leg}
 use Rattle.proximity.specs.Range.{rangeStart, rangeEnd}

@@ -5,9 +5,9 @@ use lib.Ieee.{Float}
 use Rattle.refusals.specs.Names.{NUMBER, SHAPE}
 use Rattle.shapes.specs.Leg.{isRising}
 use Rattle.shapes.specs.Box.{boxOfLeg}
-use Rattle.limits.specs.Domain.{isProfile}
-use Rattle.limits.specs.declared.domain.Examined.{Examined}
-use Rattle.limits.specs.declared.domain.Examined.the-variants as X
+use Rattle.domain.specs.Domain.{isProfile}
+use Rattle.domain.specs.declared.limits.Examined.{Examined}
+use Rattle.domain.specs.declared.limits.Examined.the-variants as X
 use Rattle.shapes.specs.declared.profile.CircularProfile.{CircularProfile}
 use Rattle.shapes.specs.declared.waypoint.Leg.{Leg}
 use Rattle.proximity.specs.Asked.{legsExamined}

@@ -6,10 +6,10 @@ use lib.Ieee
 use lib.Ieee.{Float, binary64}
 use Rattle.floats.specs.Constants.{millionth}
 use Rattle.refusals.specs.Names.{STRAYED}
-use Rattle.lists.specs.Outcome.{Outcome, Gives, Refuses}
+use Rattle.lent.specs.Outcome.{Outcome, Gives, Refuses}
 use Rattle.floats.specs.Quadratic.{two}
-use Rattle.numbers.specs.Time.{spanBetween, secondsOf, withSpan}
-use Rattle.numbers.specs.declared.time.TimePoint.{TimePoint}
+use Rattle.times.specs.Time.{spanBetween, secondsOf, withSpan}
+use Rattle.times.specs.declared.time.TimePoint.{TimePoint}
 use Rattle.shapes.specs.Leg.{isInside}
 use Rattle.shapes.specs.Box.{overlap}
 use Rattle.shapes.specs.declared.bounding_box.BoundingBox.{BoundingBox}

@@ -1,8 +1,8 @@
 // The call for conflict: it examines its own input, then does the work (docs/RULES.md, 5.1 to 5.4 and 5.11).
 use crate::conflict;
 use crate::conflict::Verdict;
-use limits::domain;
-use limits::domain::Examined;
+use domain::limits;
+use domain::limits::Examined;
 use proximity::calls;
 use shapes::bounding_box::BoundingBox;
 use shapes::profile::CircularProfile;
@@ -23,10 +23,10 @@ fn examine_carts(
     if !obstacle.is_rising() {
         return Examined::Refused(refusals::SHAPE);
     }
-    if !domain::is_profile(p) {
+    if !limits::is_profile(p) {
         return Examined::Refused(refusals::NUMBER);
     }
-    if !domain::is_profile(q) {
+    if !limits::is_profile(q) {
         return Examined::Refused(refusals::NUMBER);
     }
     calls::examine_legs(limit, agent, obstacle)

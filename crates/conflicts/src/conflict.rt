@@ -2,13 +2,13 @@
 use motions::quadratic;
 use motions::quadratic::Meeting;
 use motions::quadratic::Quadratic;
-use numbers::time::Span;
-use numbers::time::TimePoint;
 use proximity::detect;
 use proximity::detect::Entry;
 use proximity::detect::Proximity;
 use shapes::bounding_box::BoundingBox;
 use shapes::waypoint::Leg;
+use times::time::Span;
+use times::time::TimePoint;
 ghost use mathlib.Core.Path.{_≡_};
 ghost use Rattle.conflicts.specs.Conflict.{isClosing, closingAt, enteredAt, proximityInBoxes, conflictOf};
 

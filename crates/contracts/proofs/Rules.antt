@@ -2,22 +2,16 @@
 -- Assumes nothing.
 use Prim.Native.Nat.{ℕ}
 use mathlib.Core.Path.{_≡_}
-use mathlib.Core.List.{List, []}
-use lib.Ieee.{Float}
+use mathlib.Core.List.{List}
 use Rattle.settling.proofs.Facts.{one-equation}
-use Rattle.actions.specs.Built.{Built}
-use Rattle.actions.specs.Laid as A
-use Rattle.actions.specs.declared.building.Hold.{Hold}
-use Rattle.actions.proofs.Only.{only-put}
-use Rattle.arrival_paths.specs.Path.{Sought}
-use Rattle.arrival_paths.specs.Laid.{PutPath}
-use Rattle.arrival_paths.specs.declared.arrival_path.Found.{Found}
-use Rattle.arrival_paths.proofs.Only.{only-path}
-
--- Both are equal to the same whatever lists of numbers stand in three places.
-pub one-family : {A : Type 0} {f : List Float → List Float → List Float → A} {r r' : A} →
-    ((x y z : List Float) → r ≡ f x y z) → ((x y z : List Float) → r' ≡ f x y z) → r ≡ r'
-one-family p q = one-equation (p [] [] []) (q [] [] [])
+use Rattle.path_actions.specs.Built.{Built}
+use Rattle.path_actions.specs.Laid as A
+use Rattle.path_actions.specs.declared.building.Hold.{Hold}
+use Rattle.path_actions.proofs.Only.{only-put}
+use Rattle.one_path.specs.Path.{Sought}
+use Rattle.one_path.specs.Laid.{PutPath}
+use Rattle.one_path.specs.declared.arrival_path.Found.{Found}
+use Rattle.one_path.proofs.Only.{only-path}
 
 -- The actions of a path that is built, and the room with them.
 pub put-number : {answer : Built} {lent left left' : List ℕ} {row : ℕ} {r r' : Hold} →

@@ -17,6 +17,9 @@ use Rattle.shapes.proofs.bounding_box.BoundingBox.for_line.Met as bounding-box-
 use Rattle.shapes.proofs.bounding_box.BoundingBox.overlaps as bounding-box-BoundingBox-overlaps
 use Rattle.shapes.proofs.bounding_box.BoundingBox.overlaps.Symbol as bounding-box-BoundingBox-overlaps-symbol
 use Rattle.shapes.proofs.bounding_box.BoundingBox.overlaps.Met as bounding-box-BoundingBox-overlaps-met
+use Rattle.shapes.proofs.legs.leg_of as legs-leg-of
+use Rattle.shapes.proofs.legs.leg_of.Symbol as legs-leg-of-symbol
+use Rattle.shapes.proofs.legs.leg_of.Met as legs-leg-of-met
 use Rattle.shapes.proofs.profile.CircularProfile.critical_distance_for as profile-CircularProfile-critical-distance-for
 use Rattle.shapes.proofs.profile.CircularProfile.critical_distance_for.Symbol as profile-CircularProfile-critical-distance-for-symbol
 use Rattle.shapes.proofs.profile.CircularProfile.critical_distance_for.Met as profile-CircularProfile-critical-distance-for-met
@@ -106,6 +109,15 @@ bounding-box-BoundingBox-overlaps-determined = record {
   free = λ M 𝓤 H A mem run κs a. (tt, id⊢ 𝓤 (emp 𝓤));
   one = λ M 𝓤 H A mem run κs a g g' r r' left left' s s'.
       by-clause 𝓤 bounding-box-BoundingBox-overlaps.ended κs a r r' left left' (λ p q. (search one-answer, search one-answer)) s s';
+}
+
+pub legs-leg-of-determined : Determined legs-leg-of-symbol.routine legs-leg-of.ended (λ M. legs-leg-of.clauses)
+legs-leg-of-determined = record {
+  met = λ M. legs-leg-of-met.met;
+  kept = refl;
+  free = λ M 𝓤 H A mem run κs a. (tt, id⊢ 𝓤 (emp 𝓤));
+  one = λ M 𝓤 H A mem run κs a g g' r r' left left' s s'.
+      by-clause 𝓤 legs-leg-of.ended κs a r r' left left' (λ p q. (search one-answer, search one-answer)) s s';
 }
 
 pub profile-CircularProfile-critical-distance-for-determined : Determined profile-CircularProfile-critical-distance-for-symbol.routine profile-CircularProfile-critical-distance-for.ended (λ M. profile-CircularProfile-critical-distance-for.clauses)

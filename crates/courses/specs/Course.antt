@@ -6,9 +6,9 @@ use lib.Ieee.{Float}
 use Rattle.refusals.specs.Names.{NUMBER, STRAYED}
 use Rattle.root.specs.Root.{withRoot}
 use Rattle.floats.specs.Constants.{hundredMillionth}
-use Rattle.numbers.specs.Time.{spanBetween, secondsOf}
-use Rattle.numbers.specs.declared.time.Span.{Span}
-use Rattle.numbers.specs.declared.time.Span.the-variants as S
+use Rattle.times.specs.Time.{spanBetween, secondsOf}
+use Rattle.times.specs.declared.time.Span.{Span}
+use Rattle.times.specs.declared.time.Span.the-variants as S
 use Rattle.shapes.specs.Leg.{placeOf}
 use Rattle.shapes.specs.Vector.{vectorDifference, divided}
 use Rattle.shapes.specs.declared.waypoint.Leg.{Leg}

@@ -1,10 +1,10 @@
 // A leg in motion, and the agent's course: what the hints ask of both (docs/RULES.md, 10.1, 10.2, 10.7 and 10.14).
 use crate::norm;
-use numbers::time::Span;
-use numbers::time::TimePoint;
 use root::nearest::Root;
 use shapes::vector::Vector;
 use shapes::waypoint::Leg;
+use times::time::Span;
+use times::time::TimePoint;
 ghost use mathlib.Core.Path.{_≡_};
 ghost use Rattle.courses.specs.Course.{runOf, courseOf};
 

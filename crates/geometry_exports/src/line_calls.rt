@@ -1,11 +1,11 @@
 // Stationary proximity: places and a velocity come as plain numbers.
-use handing::proximity_words;
-use lines::calls;
+use crate::proximity_words;
+use line_proximity::calls;
 use shapes::vector::Vector;
-ghost use Rattle.lists.specs.Outcome.{Handed};
-ghost use Rattle.lines.specs.Stationary.{stayOutcome};
-ghost use Rattle.lines.specs.Asked.{askedStationary};
-ghost use Rattle.taking.specs.Plain.{vectorOf};
+ghost use Rattle.lent.specs.Outcome.{Handed};
+ghost use Rattle.line_proximity.specs.Stationary.{stayOutcome};
+ghost use Rattle.line_proximity.specs.Asked.{askedStationary};
+ghost use Rattle.shapes.specs.Plain.{vectorOf};
 
 // When something that goes from (px, py) by (vx, vy) is within a squared distance of (rx, ry), in seconds.
 #[no_mangle]
@@ -19,7 +19,10 @@ pub extern "C" fn igelbert_stationary_proximity(
     limit: f64,
     out: &mut [u64],
 ) -> u64
-    ensures { λ r. ⌜ Handed (stayOutcome (askedStationary (vectorOf rx ry) (vectorOf px py) (vectorOf vx vy) limit)) (now (out .entry)) (now (out .exit)) r ⌝ }
+    ensures { λ r. ⌜
+        Handed (stayOutcome (askedStationary (vectorOf rx ry) (vectorOf px py) (vectorOf vx vy) limit)) (now (out .entry))
+        (now (out .exit)) r
+        ⌝ }
 {
     let r = Vector { x: rx, y: ry };
     let p0 = Vector { x: px, y: py };

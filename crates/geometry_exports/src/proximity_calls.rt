@@ -1,15 +1,15 @@
 // Motion, proximity and conflict: legs and profiles come as plain numbers.
-use handing::proximity_words;
-use numbers::time::TimePoint;
+use crate::proximity_words;
 use proximity::calls;
+use shapes::legs;
 use shapes::profile::CircularProfile;
-use taking::legs;
-ghost use Rattle.lists.specs.Outcome.{Handed};
+use times::time::TimePoint;
+ghost use Rattle.lent.specs.Outcome.{Handed};
 ghost use Rattle.proximity.specs.Proximity.{proximityOutcome};
 ghost use Rattle.proximity.specs.Asked.{askedPosition, askedProximity, positionOutcome};
 ghost use Rattle.conflicts.specs.Conflict.{verdictOutcome};
 ghost use Rattle.conflicts.specs.Asked.{askedConflict};
-ghost use Rattle.taking.specs.Plain.{plainLeg, plainProfile};
+ghost use Rattle.shapes.specs.Plain.{plainLeg, plainProfile};
 
 // Where a leg of the agent's is at the instant t, and how fast it goes.
 #[no_mangle]
@@ -23,7 +23,10 @@ pub extern "C" fn igelbert_position(
     t: i64,
     out: &mut [u64],
 ) -> u64
-    ensures { λ r. ⌜ Handed (positionOutcome (askedPosition (plainLeg t0 x0 y0 t1 x1 y1) (record { 0 = t }))) (now (out .entry)) (now (out .exit)) r ⌝ }
+    ensures { λ r. ⌜
+        Handed (positionOutcome (askedPosition (plainLeg t0 x0 y0 t1 x1 y1) (record { 0 = t }))) (now (out .entry))
+        (now (out .exit)) r
+        ⌝ }
 {
     let leg = legs::leg_of(t0, x0, y0, t1, x1, y1);
     proximity_words::give_position(calls::position(leg, TimePoint(t)), out)
@@ -47,7 +50,10 @@ pub extern "C" fn igelbert_detect_proximity(
     y3: f64,
     out: &mut [u64],
 ) -> u64
-    ensures { λ r. ⌜ Handed (proximityOutcome (askedProximity limit (plainLeg t0 x0 y0 t1 x1 y1) (plainLeg t2 x2 y2 t3 x3 y3))) (now (out .entry)) (now (out .exit)) r ⌝ }
+    ensures { λ r. ⌜
+        Handed (proximityOutcome (askedProximity limit (plainLeg t0 x0 y0 t1 x1 y1) (plainLeg t2 x2 y2 t3 x3 y3)))
+        (now (out .entry)) (now (out .exit)) r
+        ⌝ }
 {
     let agent = legs::leg_of(t0, x0, y0, t1, x1, y1);
     let obstacle = legs::leg_of(t2, x2, y2, t3, x3, y3);
@@ -76,7 +82,13 @@ pub extern "C" fn igelbert_have_conflict(
     limit: f64,
     out: &mut [u64],
 ) -> u64
-    ensures { λ r. ⌜ Handed (verdictOutcome (askedConflict (plainProfile footprint follow) (plainLeg t0 x0 y0 t1 x1 y1) (plainProfile footprint2 follow2) (plainLeg t2 x2 y2 t3 x3 y3) limit)) (now (out .entry)) (now (out .exit)) r ⌝ }
+    ensures { λ r. ⌜
+        Handed
+        (verdictOutcome
+        (askedConflict (plainProfile footprint follow) (plainLeg t0 x0 y0 t1 x1 y1) (plainProfile footprint2 follow2)
+        (plainLeg t2 x2 y2 t3 x3 y3) limit))
+        (now (out .entry)) (now (out .exit)) r
+        ⌝ }
 {
     let p = CircularProfile { footprint, follow };
     let agent = legs::leg_of(t0, x0, y0, t1, x1, y1);

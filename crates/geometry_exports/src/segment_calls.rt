@@ -1,13 +1,13 @@
 // The safe segment: the agent comes as plain numbers, the table of obstacles as lent lists.
-use handing::proximity_words;
+use crate::proximity_words;
 use segments::calls;
+use shapes::legs;
 use shapes::profile::CircularProfile;
-use taking::legs;
-ghost use Rattle.lists.specs.Outcome.{Handed};
+ghost use Rattle.lent.specs.Outcome.{Handed};
 ghost use Rattle.conflicts.specs.Conflict.{verdictOutcome};
 ghost use Rattle.segments.specs.Asked.{askedSegment};
-ghost use Rattle.obstacles.specs.Lent.{lentOf};
-ghost use Rattle.taking.specs.Plain.{plainLeg, plainProfile};
+ghost use Rattle.table.specs.Lent.{lentOf};
+ghost use Rattle.shapes.specs.Plain.{plainLeg, plainProfile};
 
 // Whether the agent's leg is safe among the obstacles of a lent table.
 #[no_mangle]
@@ -27,7 +27,14 @@ pub extern "C" fn igelbert_is_safe_segment(
     ys: &[f64],
     out: &mut [u64],
 ) -> u64
-    ensures { λ r. ⌜ Handed (verdictOutcome (askedSegment (plainProfile footprint follow) (plainLeg t0 x0 y0 t1 x1 y1) (lentOf (now (starts .entry)) (now (numbers .entry)) (now (times .entry)) (now (xs .entry)) (now (ys .entry))))) (now (out .entry)) (now (out .exit)) r ⌝ }
+    ensures { λ r. ⌜
+        Handed
+        (verdictOutcome
+        (askedSegment (plainProfile footprint follow) (plainLeg t0 x0 y0 t1 x1 y1)
+        (lentOf (now (starts .entry)) (now (numbers .entry)) (now (times .entry)) (now (xs .entry))
+        (now (ys .entry)))))
+        (now (out .entry)) (now (out .exit)) r
+        ⌝ }
 {
     let p = CircularProfile { footprint, follow };
     let agent = legs::leg_of(t0, x0, y0, t1, x1, y1);

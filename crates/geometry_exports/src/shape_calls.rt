@@ -1,14 +1,14 @@
 // Distances and boxes: profiles, legs and bounds come as plain numbers.
-use handing::shape_words;
-use limits::calls;
+use crate::shape_words;
+use domain::calls;
 use shapes::bounding_box::BoundingBox;
+use shapes::legs;
 use shapes::profile::CircularProfile;
-use taking::legs;
-ghost use Rattle.lists.specs.Outcome.{Handed};
+ghost use Rattle.lent.specs.Outcome.{Handed};
 ghost use Rattle.shapes.specs.Distance.{criticalDistance, criticalDistanceSquared, followDistance};
-ghost use Rattle.limits.specs.Asked.{askedDistance, askedBox, askedOverlap, distanceOutcome, boxOutcome, overlapOutcome};
-ghost use Rattle.examining.specs.Asked.{askedHull, hullOutcome};
-ghost use Rattle.taking.specs.Plain.{plainLeg, plainProfile};
+ghost use Rattle.domain.specs.Asked.{askedDistance, askedBox, askedOverlap, distanceOutcome, boxOutcome, overlapOutcome};
+ghost use Rattle.table_checks.specs.Asked.{askedHull, hullOutcome};
+ghost use Rattle.shapes.specs.Plain.{plainLeg, plainProfile};
 
 // How near two carts may stand.
 #[no_mangle]
@@ -19,7 +19,13 @@ pub extern "C" fn igelbert_critical_distance(
     follow2: f64,
     out: &mut [u64],
 ) -> u64
-    ensures { λ r. ⌜ Handed (distanceOutcome (askedDistance (plainProfile footprint follow) (plainProfile footprint2 follow2) (criticalDistance (plainProfile footprint follow) (plainProfile footprint2 follow2)))) (now (out .entry)) (now (out .exit)) r ⌝ }
+    ensures { λ r. ⌜
+        Handed
+        (distanceOutcome
+        (askedDistance (plainProfile footprint follow) (plainProfile footprint2 follow2)
+        (criticalDistance (plainProfile footprint follow) (plainProfile footprint2 follow2))))
+        (now (out .entry)) (now (out .exit)) r
+        ⌝ }
 {
     let p = CircularProfile { footprint, follow };
     let q = CircularProfile {
@@ -38,7 +44,13 @@ pub extern "C" fn igelbert_critical_distance_squared(
     follow2: f64,
     out: &mut [u64],
 ) -> u64
-    ensures { λ r. ⌜ Handed (distanceOutcome (askedDistance (plainProfile footprint follow) (plainProfile footprint2 follow2) (criticalDistanceSquared (plainProfile footprint follow) (plainProfile footprint2 follow2)))) (now (out .entry)) (now (out .exit)) r ⌝ }
+    ensures { λ r. ⌜
+        Handed
+        (distanceOutcome
+        (askedDistance (plainProfile footprint follow) (plainProfile footprint2 follow2)
+        (criticalDistanceSquared (plainProfile footprint follow) (plainProfile footprint2 follow2))))
+        (now (out .entry)) (now (out .exit)) r
+        ⌝ }
 {
     let p = CircularProfile { footprint, follow };
     let q = CircularProfile {
@@ -57,7 +69,13 @@ pub extern "C" fn igelbert_follow_distance(
     follow2: f64,
     out: &mut [u64],
 ) -> u64
-    ensures { λ r. ⌜ Handed (distanceOutcome (askedDistance (plainProfile footprint follow) (plainProfile footprint2 follow2) (followDistance (plainProfile footprint follow) (plainProfile footprint2 follow2)))) (now (out .entry)) (now (out .exit)) r ⌝ }
+    ensures { λ r. ⌜
+        Handed
+        (distanceOutcome
+        (askedDistance (plainProfile footprint follow) (plainProfile footprint2 follow2)
+        (followDistance (plainProfile footprint follow) (plainProfile footprint2 follow2))))
+        (now (out .entry)) (now (out .exit)) r
+        ⌝ }
 {
     let p = CircularProfile { footprint, follow };
     let q = CircularProfile {
@@ -80,7 +98,10 @@ pub extern "C" fn igelbert_box_of_leg(
     y1: f64,
     out: &mut [u64],
 ) -> u64
-    ensures { λ r. ⌜ Handed (boxOutcome (askedBox (plainProfile footprint follow) (plainLeg t0 x0 y0 t1 x1 y1))) (now (out .entry)) (now (out .exit)) r ⌝ }
+    ensures { λ r. ⌜
+        Handed (boxOutcome (askedBox (plainProfile footprint follow) (plainLeg t0 x0 y0 t1 x1 y1))) (now (out .entry))
+        (now (out .exit)) r
+        ⌝ }
 {
     let p = CircularProfile { footprint, follow };
     let leg = legs::leg_of(t0, x0, y0, t1, x1, y1);
@@ -97,10 +118,13 @@ pub extern "C" fn igelbert_box_of_obstacle(
     ys: &[f64],
     out: &mut [u64],
 ) -> u64
-    ensures { λ r. ⌜ Handed (hullOutcome (askedHull (plainProfile footprint follow) (now (times .entry)) (now (xs .entry)) (now (ys .entry)))) (now (out .entry)) (now (out .exit)) r ⌝ }
+    ensures { λ r. ⌜
+        Handed (hullOutcome (askedHull (plainProfile footprint follow) (now (times .entry)) (now (xs .entry)) (now (ys .entry))))
+        (now (out .entry)) (now (out .exit)) r
+        ⌝ }
 {
     let p = CircularProfile { footprint, follow };
-    shape_words::give_hull(examining::calls::box_of_obstacle(p, times, xs, ys), out)
+    shape_words::give_hull(table_checks::calls::box_of_obstacle(p, times, xs, ys), out)
 }
 
 // Whether two boxes overlap.
@@ -116,7 +140,13 @@ pub extern "C" fn igelbert_boxes_overlap(
     top2: f64,
     out: &mut [u64],
 ) -> u64
-    ensures { λ r. ⌜ Handed (overlapOutcome (askedOverlap (record { left = left; bottom = bottom; right = right; top = top }) (record { left = left2; bottom = bottom2; right = right2; top = top2 }))) (now (out .entry)) (now (out .exit)) r ⌝ }
+    ensures { λ r. ⌜
+        Handed
+        (overlapOutcome
+        (askedOverlap (record { left = left; bottom = bottom; right = right; top = top })
+        (record { left = left2; bottom = bottom2; right = right2; top = top2 })))
+        (now (out .entry)) (now (out .exit)) r
+        ⌝ }
 {
     let p = BoundingBox {
         left,

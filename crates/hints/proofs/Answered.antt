@@ -9,24 +9,24 @@ use native.Mathlib.Omega.{arith}
 use lib.ListN.{length, length-map}
 use Rattle.shapes.specs.Box.{boxOfLeg}
 use Rattle.shapes.specs.Leg.{isRising, isBrief}
-use Rattle.limits.specs.declared.domain.Examined.the-variants as X
+use Rattle.domain.specs.declared.limits.Examined.the-variants as X
 use Rattle.shapes.specs.declared.bounding_box.BoundingBox.{BoundingBox}
 use Rattle.shapes.specs.declared.profile.CircularProfile.{CircularProfile}
 use Rattle.shapes.specs.declared.waypoint.Leg.{Leg}
-use Rattle.obstacles.specs.Obstacle.{Obstacle}
-use Rattle.obstacles.specs.Lent.{Lent, obstaclesOf}
-use Rattle.obstacles.specs.Examined.{agentExamined}
-use Rattle.obstacles.proofs.Accepted.{Accepted, accepted}
-use Rattle.waits.specs.Hints as W
-use Rattle.waits.specs.Hints.{Hints}
-use Rattle.waits.specs.declared.hint.WaitHint.{WaitHint}
-use Rattle.waits.specs.declared.hint.RankedHint.{RankedHint}
-use Rattle.waits.proofs.Sound.{Sound}
-use Rattle.ranking.specs.Ranked.{ranked, Ranking}
-use Rattle.ranking.specs.Hints.{Ranked, Of, Refused, rankedIn}
-use Rattle.ranking.proofs.Theorems.{ranked-ranking, only-ranked}
-use Rattle.finding.specs.Walk.{hintsOf}
-use Rattle.finding.proofs.Sound.{hints-sound, lasting-rises}
+use Rattle.table.specs.Obstacle.{Obstacle}
+use Rattle.table.specs.Lent.{Lent, obstaclesOf}
+use Rattle.table.specs.Examined.{agentExamined}
+use Rattle.table.proofs.Accepted.{Accepted, accepted}
+use Rattle.hint_list.specs.Hints as W
+use Rattle.hint_list.specs.Hints.{Hints}
+use Rattle.hint_list.specs.declared.hint.WaitHint.{WaitHint}
+use Rattle.hint_list.specs.declared.hint.RankedHint.{RankedHint}
+use Rattle.hint_list.proofs.Sound.{Sound}
+use Rattle.hint_ranking.specs.Ranked.{ranked, Ranking}
+use Rattle.hint_ranking.specs.Hints.{Ranked, Of, Refused, rankedIn}
+use Rattle.hint_ranking.proofs.Theorems.{ranked-ranking, only-ranked}
+use Rattle.hint_walk.specs.Walk.{hintsOf}
+use Rattle.hint_walk.proofs.Sound.{hints-sound, lasting-rises}
 use Rattle.hints.specs.Contour.{scaleOf, measuredBy, rankedHints}
 use Rattle.hints.specs.Asked.{askedHints}
 use Rattle.hints.specs.declared.contour.Scale.{Scale}

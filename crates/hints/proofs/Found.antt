@@ -6,16 +6,16 @@ use mathlib.Core.Path.{_≡_, refl, sym, ap, _∙_}
 use mathlib.Core.List.{List, [], _∷_, map}
 use native.Mathlib.Omega.{arith}
 use lib.ListN.{length, set, replicate, length-map}
-use Rattle.waits.specs.Words.{unranked, countIn, hintsIn, laid}
-use Rattle.waits.specs.Hints as W
-use Rattle.waits.specs.Adding.{Added, filledOf, laidBy}
-use Rattle.waits.specs.declared.hint.WaitHint.{WaitHint}
-use Rattle.waits.specs.declared.hint_list.Filled.{Filled}
-use Rattle.waits.specs.declared.hint_list.Filled.the-variants as F
-use Rattle.waits.proofs.Reading.{counted, no-hints}
-use Rattle.waits.proofs.Words.{laid-count, laid-again, laid-held, set-laid, unranked-kept}
-use Rattle.ranking.specs.Hints.{Ranked, Of, Refused, Ranks, filledBy, rankedWords}
-use Rattle.ranking.proofs.OneByOne.{answer-words}
+use Rattle.hint_list.specs.Words.{unranked, countIn, hintsIn, laid}
+use Rattle.hint_list.specs.Hints as W
+use Rattle.hint_list.specs.Adding.{Added, filledOf, laidBy}
+use Rattle.hint_list.specs.declared.hint.WaitHint.{WaitHint}
+use Rattle.hint_list.specs.declared.entries.Filled.{Filled}
+use Rattle.hint_list.specs.declared.entries.Filled.the-variants as F
+use Rattle.hint_list.proofs.Reading.{counted, no-hints}
+use Rattle.hint_list.proofs.Words.{laid-count, laid-again, laid-held, set-laid, unranked-kept}
+use Rattle.hint_ranking.specs.Hints.{Ranked, Of, Refused, Ranks, filledBy, rankedWords}
+use Rattle.hint_ranking.proofs.OneByOne.{answer-words}
 use Rattle.hints.specs.Ranking.{foundIn, rankedOver, RanksOver}
 
 as-found : (hs : List WaitHint) → map (λ r. r .hint) (map unranked hs) ≡ hs

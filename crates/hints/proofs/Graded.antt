@@ -4,15 +4,15 @@ use mathlib.Core.Path.{_≡_, refl}
 use mathlib.Core.Logic.{_⊎_, inl, inr}
 use mathlib.Core.Bool.{true}
 use mathlib.Core.List.{List, [], _∷_, map, List·Memᴰ, List·Memᴰ·head, List·Memᴰ·tail}
-use Rattle.lists.specs.Listed.{every}
-use Rattle.numbers.proofs.Exact.{both}
-use Rattle.limits.specs.Domain.{isLeg}
+use Rattle.lent.specs.Listed.{every}
+use Rattle.times.proofs.Exact.{both}
+use Rattle.domain.specs.Domain.{isLeg}
 use Rattle.shapes.specs.declared.waypoint.Leg.{Leg}
-use Rattle.waits.specs.declared.hint.WaitHint.{WaitHint}
-use Rattle.waits.proofs.Sound.{hasPlace}
-use Rattle.waits.specs.declared.hint.RankedHint.{RankedHint}
-use Rattle.ranking.specs.Ranked.{isKnown, inserted, rankedOnto}
-use Rattle.ranking.specs.Hints as R
+use Rattle.hint_list.specs.declared.hint.WaitHint.{WaitHint}
+use Rattle.hint_list.proofs.Sound.{hasPlace}
+use Rattle.hint_list.specs.declared.hint.RankedHint.{RankedHint}
+use Rattle.hint_ranking.specs.Ranked.{isKnown, inserted, rankedOnto}
+use Rattle.hint_ranking.specs.Hints as R
 use Rattle.hints.specs.Contour.{scaleOf, gradeOf, gradedOnto}
 use Rattle.hints.specs.declared.contour.Scale.{Scale}
 use Rattle.hints.specs.declared.contour.Scaling.the-variants.{By}

@@ -13,29 +13,29 @@ use Rattle.floats.proofs.Tests.{passed, failed, is-true}
 use Rattle.floats.proofs.Strict.{not-lt→le}
 use Rattle.floats.proofs.NotANumber.{finite-known}
 use Rattle.floats.proofs.Bounds.{within-known, within-finite, within-of-bounds, within-le, within-lower, within-upper}
-use Rattle.numbers.specs.Time.{isExact, spanBetween, secondsOf, spanOfSeconds, withSpan}
-use Rattle.numbers.specs.declared.time.Duration.{Duration}
-use Rattle.numbers.specs.declared.time.Span.{Span}
-use Rattle.numbers.specs.declared.time.Span.the-variants as S
-use Rattle.numbers.proofs.Exact.{both}
-use Rattle.numbers.proofs.Answers.{span-of-seconds-exact}
-use Rattle.numbers.proofs.Spans.{spanFrom}
+use Rattle.times.specs.Time.{isExact, spanBetween, secondsOf, spanOfSeconds, withSpan}
+use Rattle.times.specs.declared.time.Duration.{Duration}
+use Rattle.times.specs.declared.time.Span.{Span}
+use Rattle.times.specs.declared.time.Span.the-variants as S
+use Rattle.times.proofs.Exact.{both}
+use Rattle.times.proofs.Answers.{span-of-seconds-exact}
+use Rattle.times.proofs.Spans.{spanFrom}
 use Rattle.root.proofs.Size.{Fine}
 use Rattle.shapes.specs.Leg.{placeOf}
-use Rattle.limits.specs.Domain.{isWaypoint, isLeg}
+use Rattle.domain.specs.Domain.{isWaypoint, isLeg}
 use Rattle.shapes.specs.Vector.{vectorDifference, divided, dotOf}
 use Rattle.shapes.specs.declared.vector.Vector.{Vector}
 use Rattle.shapes.specs.declared.waypoint.Leg.{Leg}
 use Rattle.shapes.specs.declared.waypoint.Waypoint.{Waypoint}
-use Rattle.limits.proofs.Limits.{tenThousand, leg-start, leg-end, waypoint-time, waypoint-x, waypoint-y, coordinate-at-most}
-use Rattle.limits.proofs.Vectors.{Spans, spans-le, spans-difference, spans-divided, within-dot-of}
+use Rattle.domain.proofs.Within.{tenThousand, leg-start, leg-end, waypoint-time, waypoint-x, waypoint-y, coordinate-at-most}
+use Rattle.domain.proofs.Vectors.{Spans, spans-le, spans-difference, spans-divided, within-dot-of}
 use Rattle.proximity.proofs.Arrivals.{times-given}
-use Rattle.lines.proofs.OnDomain.{Normed, norm-given, steepest}
-use Rattle.waits.specs.Hint.{isWithinMillion, isPlaced}
-use Rattle.waits.specs.declared.hint.WaitHint.{WaitHint}
-use Rattle.ranking.specs.Ranked.{isKnown}
-use Rattle.lending.specs.Lent.{isFinite}
-use Rattle.waits.specs.declared.hint.RankedHint.{RankedHint}
+use Rattle.line_proximity.proofs.OnDomain.{Normed, norm-given, steepest}
+use Rattle.hint_list.specs.Hint.{isWithinMillion, isPlaced}
+use Rattle.hint_list.specs.declared.hint.WaitHint.{WaitHint}
+use Rattle.hint_ranking.specs.Ranked.{isKnown}
+use Rattle.hint_words.specs.Lent.{isFinite}
+use Rattle.hint_list.specs.declared.hint.RankedHint.{RankedHint}
 use Rattle.hints.specs.Contour.{scaleOf, contourOf, gradeOf}
 use Rattle.hints.specs.declared.contour.Scale.{Scale}
 use Rattle.hints.specs.declared.contour.Scaling.{Scaling}

@@ -9,16 +9,16 @@ use native.Mathlib.Numerals.{add-one}
 use native.Mathlib.Omega.{arith}
 use lib.ListN.{length, drop, getD, length-map, drop-of-length-le, List·getD-map}
 use lib.Seq.{drop-cons}
-use Rattle.waits.specs.Words.{blankHint, blankRanked, countIn, hintIn, hintsIn, laid}
-use Rattle.waits.specs.declared.hint.WaitHint.{WaitHint}
-use Rattle.waits.specs.declared.hint.RankedHint.{RankedHint}
-use Rattle.waits.specs.declared.hint_list.Filled.{Filled}
-use Rattle.waits.specs.declared.hint_list.Filled.the-variants as F
-use Rattle.waits.proofs.Reading.{counted, hint-there}
-use Rattle.waits.proofs.Words.{KeptRanked, AllRankedKept, laid-count, laid-apart, laid-held}
-use Rattle.ranking.specs.Ranked.{inserted}
-use Rattle.ranking.specs.Hints.{Of, Refused, Ranks, filledBy, rankedWords, rankedInto}
-use Rattle.ranking.proofs.OneByOne.{length-inserted, inserted-kept, ranked-into}
+use Rattle.hint_list.specs.Words.{blankHint, blankRanked, countIn, hintIn, hintsIn, laid}
+use Rattle.hint_list.specs.declared.hint.WaitHint.{WaitHint}
+use Rattle.hint_list.specs.declared.hint.RankedHint.{RankedHint}
+use Rattle.hint_list.specs.declared.entries.Filled.{Filled}
+use Rattle.hint_list.specs.declared.entries.Filled.the-variants as F
+use Rattle.hint_list.proofs.Reading.{counted, hint-there}
+use Rattle.hint_list.proofs.Words.{KeptRanked, AllRankedKept, laid-count, laid-apart, laid-held}
+use Rattle.hint_ranking.specs.Ranked.{inserted}
+use Rattle.hint_ranking.specs.Hints.{Of, Refused, Ranks, filledBy, rankedWords, rankedInto}
+use Rattle.hint_ranking.proofs.OneByOne.{length-inserted, inserted-kept, ranked-into}
 use Rattle.hints.specs.Contour.{gradeOf, gradedOnto}
 use Rattle.hints.specs.Ranking.{foundIn, rankedOver, RanksOver}
 use Rattle.hints.specs.declared.contour.Scale.{Scale}

@@ -4,13 +4,13 @@ use mathlib.Core.Bool.{cond}
 use Rattle.refusals.specs.Names.{NO_LINE}
 use Rattle.shapes.specs.Box.{boxOfLeg}
 use Rattle.shapes.specs.Leg.{isBrief}
-use Rattle.limits.specs.declared.domain.Examined.{Examined}
-use Rattle.limits.specs.declared.domain.Examined.the-variants as X
+use Rattle.domain.specs.declared.limits.Examined.{Examined}
+use Rattle.domain.specs.declared.limits.Examined.the-variants as X
 use Rattle.shapes.specs.declared.profile.CircularProfile.{CircularProfile}
 use Rattle.shapes.specs.declared.waypoint.Leg.{Leg}
-use Rattle.obstacles.specs.Lent.{Lent, obstaclesOf}
-use Rattle.obstacles.specs.Examined.{agentExamined}
-use Rattle.ranking.specs.Hints.{Ranked, Refused}
+use Rattle.table.specs.Lent.{Lent, obstaclesOf}
+use Rattle.table.specs.Examined.{agentExamined}
+use Rattle.hint_ranking.specs.Hints.{Ranked, Refused}
 use Rattle.hints.specs.Contour.{rankedHints}
 
 -- 4 for a duration under 10 ns, then the hints of the agent's leg in the box of its own footprint.

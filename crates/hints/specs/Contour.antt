@@ -7,22 +7,22 @@ use lib.Ieee.{Float, binary64}
 use Rattle.refusals.specs.Names.{NUMBER, NO_LINE, STRAYED}
 use Rattle.root.specs.Root.{withRoot}
 use Rattle.floats.specs.Constants.{hundredMillionth}
-use Rattle.numbers.specs.Time.{spanBetween, secondsOf, spanOfSeconds, withSpan}
-use Rattle.numbers.specs.declared.time.Span.{Span}
+use Rattle.times.specs.Time.{spanBetween, secondsOf, spanOfSeconds, withSpan}
+use Rattle.times.specs.declared.time.Span.{Span}
 use Rattle.shapes.specs.Leg.{placeOf}
 use Rattle.shapes.specs.Vector.{vectorDifference, divided, dotOf}
 use Rattle.shapes.specs.declared.bounding_box.BoundingBox.{BoundingBox}
 use Rattle.shapes.specs.declared.profile.CircularProfile.{CircularProfile}
 use Rattle.shapes.specs.declared.waypoint.Leg.{Leg}
 use Rattle.courses.specs.Norm.{normOf}
-use Rattle.obstacles.specs.Obstacle.{Obstacle}
-use Rattle.waits.specs.Hints as W
-use Rattle.waits.specs.Hints.{Hints}
-use Rattle.waits.specs.declared.hint.WaitHint.{WaitHint}
-use Rattle.waits.specs.declared.hint.RankedHint.{RankedHint}
-use Rattle.ranking.specs.Ranked.{inserted}
-use Rattle.ranking.specs.Hints.{Ranked, Of, Refused}
-use Rattle.finding.specs.Walk.{hintsOf}
+use Rattle.table.specs.Obstacle.{Obstacle}
+use Rattle.hint_list.specs.Hints as W
+use Rattle.hint_list.specs.Hints.{Hints}
+use Rattle.hint_list.specs.declared.hint.WaitHint.{WaitHint}
+use Rattle.hint_list.specs.declared.hint.RankedHint.{RankedHint}
+use Rattle.hint_ranking.specs.Ranked.{inserted}
+use Rattle.hint_ranking.specs.Hints.{Ranked, Of, Refused}
+use Rattle.hint_walk.specs.Walk.{hintsOf}
 use Rattle.hints.specs.declared.contour.Scale.{Scale}
 use Rattle.hints.specs.declared.contour.Scaling.{Scaling}
 use Rattle.hints.specs.declared.contour.Scaling.the-variants as L

@@ -4,10 +4,10 @@ use mathlib.Core.Path.{_≡_}
 use Prim.Native.Nat.{ℕ}
 use mathlib.Core.List.{List, [], map}
 use lib.ListN.{replicate}
-use Rattle.waits.specs.Words.{hintsIn, laid}
-use Rattle.waits.specs.declared.hint.WaitHint.{WaitHint}
-use Rattle.waits.specs.declared.hint_list.Filled.{Filled}
-use Rattle.ranking.specs.Hints.{Ranked, Of, Refused, rankedIn, filledBy}
+use Rattle.hint_list.specs.Words.{hintsIn, laid}
+use Rattle.hint_list.specs.declared.hint.WaitHint.{WaitHint}
+use Rattle.hint_list.specs.declared.entries.Filled.{Filled}
+use Rattle.hint_ranking.specs.Hints.{Ranked, Of, Refused, rankedIn, filledBy}
 
 -- The hints of a list as they were found.
 unfoldable pub foundIn : List ℕ → List WaitHint

@@ -1,13 +1,13 @@
 // The contour and the reach of a hint (docs/RULES.md, 11.1 to 11.4).
 use courses::norm;
-use numbers::time::Duration;
-use numbers::time::Span;
-use numbers::time::TimePoint;
+use hint_list::hint::RankedHint;
+use hint_list::hint::WaitHint;
 use root::nearest::Root;
 use shapes::vector::Vector;
 use shapes::waypoint::Leg;
-use waits::hint::RankedHint;
-use waits::hint::WaitHint;
+use times::time::Duration;
+use times::time::Span;
+use times::time::TimePoint;
 ghost use mathlib.Core.Path.{_≡_};
 ghost use Rattle.hints.specs.Contour.{scaleOf, contourOf, gradeOf};
 

@@ -3,23 +3,22 @@ use crate::contour;
 use crate::contour::Grade;
 use crate::contour::Scale;
 use crate::contour::Scaling;
-use finding::walk;
-use ranking::ranked_hints;
+use hint_list::entries;
+use hint_list::entries::Filled;
+use hint_ranking::ranked_hints;
+use hint_walk::walk;
 use shapes::bounding_box::BoundingBox;
 use shapes::profile::CircularProfile;
 use shapes::waypoint::Leg;
-use waits::hint_list;
-use waits::hint_list::Filled;
 ghost use mathlib.Core.Path.{_≡_};
 ghost use mathlib.Core.List.{List, []};
 ghost use lib.ListN.{length, replicate};
-ghost use Rattle.obstacles.specs.Lent.{lentOf, obstaclesWith};
-ghost use Rattle.obstacles.specs.Boxes.{boxIn};
-ghost use Rattle.waits.specs.Hints.{Of};
-ghost use Rattle.waits.specs.Adding.{Added};
-ghost use Rattle.waits.specs.declared.hint.WaitHint.{WaitHint};
-ghost use Rattle.waits.specs.declared.hint_list.Filled.the-variants as F;
-ghost use Rattle.ranking.specs.Hints.{Ranks, Refused};
+ghost use Rattle.table.specs.Table.{obstaclesIn};
+ghost use Rattle.hint_list.specs.Hints.{Of};
+ghost use Rattle.hint_list.specs.Adding.{Added};
+ghost use Rattle.hint_list.specs.declared.hint.WaitHint.{WaitHint};
+ghost use Rattle.hint_list.specs.declared.entries.Filled.the-variants as F;
+ghost use Rattle.hint_ranking.specs.Hints.{Ranks, Refused};
 ghost use Rattle.hints.specs.Contour.{scaleOf, gradedOnto, measuredBy, rankedHints};
 ghost use Rattle.hints.specs.Ranking.{RanksOver, foundIn};
 
@@ -36,10 +35,10 @@ fn rank(scale: Scale, hints: &mut [u64; 385]) -> Filled
     requires { ⌜ length (now hints) ≡ 385 ⌝ }
     ensures { λ r. ⌜ RanksOver (gradedOnto scale [] (foundIn (now (hints .entry)))) (now (hints .entry)) (now (hints .exit)) r ⌝ }
 {
-    let n = hint_list::count_of(hints);
+    let n = entries::count_of(hints);
     let mut i = 0;
     while i < n {
-        let found = hint_list::hint_at(hints, i);
+        let found = entries::hint_at(hints, i);
         let grade = contour::grade_of(scale, found.hint);
         let Grade::Of(ranked) = grade else {
             return refuse(hints, refusals::STRAYED);
@@ -53,7 +52,10 @@ fn rank(scale: Scale, hints: &mut [u64; 385]) -> Filled
 // The n hints that were found, which stand in a list that was empty, with their count, ranked along the agent's leg.
 fn measure(agent: Leg, hints: &mut [u64; 385], n: usize) -> Filled
     requires { ⌜ length (now hints) ≡ 385 ⌝ }
-    ensures { λ r. ⌜ ((hs : List WaitHint) → Added (Of hs) 0 (replicate 385 0) (now (hints .entry)) (F.Of n) → Ranks (measuredBy (scaleOf agent) hs) (now (hints .exit)) r) ⌝ }
+    ensures { λ r. ⌜
+        ((hs : List WaitHint) → Added (Of hs) 0 (replicate 385 0) (now (hints .entry)) (F.Of n) → Ranks
+        (measuredBy (scaleOf agent) hs) (now (hints .exit)) r)
+        ⌝ }
 {
     hints[0] = n as u64;
     let scaling = contour::scale_of(agent);
@@ -68,29 +70,16 @@ pub fn compute_safe_linear_path_wait_hints(
     p: CircularProfile,
     agent: Leg,
     bounds: BoundingBox,
-    starts: &[usize],
-    numbers: &[f64],
-    times: &[i64],
-    xs: &[f64],
-    ys: &[f64],
-    boxes: &[f64],
+    marks: &[u64; 417],
+    places: &[f64; 800],
     hints: &mut [u64; 385],
 ) -> Filled
-    ensures { λ r. ⌜ Ranks (rankedHints p agent bounds (obstaclesWith (lentOf (now (starts .entry)) (now (numbers .entry)) (now (times .entry)) (now (xs .entry)) (now (ys .entry))) (boxIn (now (boxes .entry))))) (now (hints .exit)) r ⌝ }
+    ensures { λ r. ⌜
+        Ranks (rankedHints p agent bounds (obstaclesIn (now (marks .entry)) (now (places .entry)))) (now (hints .exit)) r
+        ⌝ }
 {
     *hints = [0; 385];
-    let filled = walk::compute_wait_hints(
-        p,
-        agent,
-        bounds,
-        starts,
-        numbers,
-        times,
-        xs,
-        ys,
-        boxes,
-        hints,
-    );
+    let filled = walk::compute_wait_hints(p, agent, bounds, marks, places, hints);
     let Filled::Of(n) = filled else {
         return filled;
     };

@@ -6,8 +6,8 @@ use mathlib.Core.List.{List, _∷_}
 use native.Mathlib.Omega.{arith}
 use lib.IntN.{ℤ}
 use lib.ListN.{length}
-use Rattle.numbers.proofs.Integers.{at-most→not-below}
-use Rattle.lists.specs.Listed.{every}
+use Rattle.times.proofs.Integers.{at-most→not-below}
+use Rattle.lent.specs.Listed.{every}
 use Rattle.texts.specs.Letters.{bytesOf}
 use Rattle.texts.specs.Reading.{isDigit, numeralRead, readFrom, countOf}
 use Rattle.hold_lines.specs.Text.{Held, linesIn, withoutEmptyEnd, piecesAt, lineIn, numberUpTo, isDecimal, holdIn}

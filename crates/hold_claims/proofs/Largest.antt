@@ -6,7 +6,7 @@ use mathlib.Core.List.{List, [], _∷_}
 use lib.IntN.{ℤ}
 use lib.Signed.{ltZ, _≤ℤ_, ltZ-no, ≤ℤ-refl}
 use Rattle.floats.proofs.Tests.{passed, failed}
-use Rattle.numbers.proofs.Integers.{below→at-most, at-most-trans}
+use Rattle.times.proofs.Integers.{below→at-most, at-most-trans}
 use Rattle.hold_figures.specs.Crews.{largestOf}
 use Rattle.hold_claims.specs.Claims.{AmongHolds, Here, Later}
 

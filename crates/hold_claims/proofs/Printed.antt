@@ -11,10 +11,10 @@ use lib.IntN.{ℤ, pos, negsuc}
 use lib.ListN.{length}
 use mir.Syntax.{w64}
 use mir.Val.{SFits}
-use Rattle.patterns.specs.Word.{wordOf}
-use Rattle.patterns.proofs.Words.{signed-back}
+use Rattle.number_words.specs.Word.{wordOf}
+use Rattle.number_words.proofs.Words.{signed-back}
 use Rattle.texts.specs.Numerals.{decimalOf, signedText, countField, timeField}
-use Rattle.wording.specs.Lines.{line}
+use Rattle.reply_lines.specs.Lines.{line}
 use Rattle.hold_figures.specs.Crews.{totalOf, largestOf, meanOf, remainderOf, isSigned64}
 use Rattle.hold_report.specs.Report.{figuresLine, crewLine}
 

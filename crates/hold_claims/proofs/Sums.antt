@@ -8,8 +8,8 @@ use native.Mathlib.Omega.{arith}
 use lib.Dec.{eqb}
 use lib.IntN.{ℤ, pos, _+ℤ_, +ℤ-assoc, +ℤ-comm}
 use borrow.Author.Tests.{eqb-true, eqb-false, ne-eqb}
-use Rattle.lists.specs.Listed.{listed}
-use Rattle.lists.proofs.Listed.{listed-same}
+use Rattle.lent.specs.Listed.{listed}
+use Rattle.lent.proofs.Listed.{listed-same}
 use Rattle.hold_lines.specs.Text.{Held}
 use Rattle.hold_figures.specs.Crews.{holdsOf, totalOf}
 use Rattle.hold_claims.specs.Claims.{allHolds}

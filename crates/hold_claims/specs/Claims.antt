@@ -10,10 +10,10 @@ use mathlib.Core.Option.{none, some}
 use lib.IntN.{ℤ, pos, negsuc, _+ℤ_, _*ℤ_}
 use lib.ListN.{length}
 use lib.Signed.{ltZ}
-use Rattle.lists.specs.Listed.{listed}
+use Rattle.lent.specs.Listed.{listed}
 use Rattle.texts.specs.Letters.{bytesOf}
 use Rattle.texts.specs.Numerals.{decimalOf, signedText}
-use Rattle.wording.specs.Lines.{line}
+use Rattle.reply_lines.specs.Lines.{line}
 use Rattle.hold_lines.specs.Text.{Held, linesIn, lineIn}
 use Rattle.hold_figures.specs.Crews.{holdsOf, totalOf, largestOf, meanOf, remainderOf, isSigned64}
 use Rattle.hold_report.specs.Report.{crewLine}

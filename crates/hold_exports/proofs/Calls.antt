@@ -10,7 +10,7 @@ use native.Mathlib.Omega.{arith}
 use lib.Dec.{eqb, leb}
 use lib.ListN.{length, getD}
 use Rattle.refusals.specs.Names.{SHAPE}
-use Rattle.lists.specs.Outcome.{Gives, Refuses}
+use Rattle.lent.specs.Outcome.{Gives, Refuses}
 use Rattle.hold_year.specs.Parts.{Going, On, Over, fedBy, finished, fedAnswer, wordsOrZero, Feeds}
 use Rattle.hold_year.specs.declared.year.Reading.{Reading}
 use Rattle.hold_year.specs.declared.year.Fed.{Fed}

@@ -8,8 +8,8 @@ use borrow.Author.Tests.{le-leb}
 use native.Mathlib.Omega.{arith}
 use lib.ListN.{length, take, replicate, length-append, length-replicate}
 use lib.Seq.{take-append-seam}
-use Rattle.lists.specs.Outcome.{Gives, roomOf}
-use Rattle.lists.proofs.Answer.{room-fits}
+use Rattle.lent.specs.Outcome.{Gives, roomOf}
+use Rattle.lent.proofs.Answer.{room-fits}
 use Rattle.hold_year.specs.Parts.{Going, On, Over, begun, isBroken, goingOn, fedBy, fedParts, answerAfter}
 use Rattle.hold_year.specs.declared.year.Reading.{Reading}
 use Rattle.hold_year.proofs.Cut.{cut-anyhow}

@@ -6,7 +6,7 @@ use mathlib.Core.List.{List, _∷_, _++_, append-nil}
 use native.Mathlib.Omega.{arith}
 use lib.ListN.{length, take, drop, set, getD, length-append, length-drop, drop-of-length-le}
 use lib.Seq.{length-take-le, getD-take, getD-drop, getD-append-add, take-all}
-use Rattle.lists.proofs.Filling.{copied-step}
+use Rattle.lent.proofs.Filling.{copied-step}
 use Rattle.hold_exports.specs.declared.kept.Spelt.{Spelt}
 use Rattle.hold_exports.specs.Memory.{figuresIn}
 

@@ -6,7 +6,7 @@ use mathlib.Core.List.{List, _∷_}
 use lib.Dec.{eqb, leb}
 use lib.ListN.{length, take, drop, getD, replicate}
 use Rattle.refusals.specs.Names.{SHAPE}
-use Rattle.lists.specs.Outcome.{Outcome, Gives, Refuses}
+use Rattle.lent.specs.Outcome.{Outcome, Gives, Refuses}
 use Rattle.hold_lines.specs.declared.place.Place.{Place}
 use Rattle.hold_lines.specs.declared.place.Place.the-variants as P
 use Rattle.hold_year.specs.declared.year.Reading.{Reading}

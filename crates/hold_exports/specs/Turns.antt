@@ -5,8 +5,8 @@ use Prim.Native.Nat.{ℕ, _≤_}
 use mathlib.Core.Path.{_≡_}
 use mathlib.Core.List.{List, [], _∷_}
 use lib.ListN.{length}
-use Rattle.lists.specs.Outcome.{Outcome, Gives, Refuses, roomOf}
-use Rattle.lists.specs.Rows.{wordsIn}
+use Rattle.lent.specs.Outcome.{Outcome, Gives, Refuses, roomOf}
+use Rattle.lent.specs.Rows.{wordsIn}
 use Rattle.hold_year.specs.Year.{yearReply}
 use Rattle.hold_exports.specs.Memory.{begunMemory, fedMemory, finishedMemory}
 

@@ -3,9 +3,9 @@ use crate::kept;
 use crate::kept::Kept;
 use hold_year::year;
 use hold_year::year::Fed;
-use lists::words;
+use lent::words;
 use texts::room;
-ghost use Rattle.lists.specs.Outcome.{Handed};
+ghost use Rattle.lent.specs.Outcome.{Handed};
 ghost use Rattle.hold_exports.specs.Memory.{begunMemory, fedMemory, finishedMemory};
 
 // Begins a year in a memory of 197 words.

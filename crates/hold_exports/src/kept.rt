@@ -1,11 +1,11 @@
 // A reading in the caller's memory between two calls (docs/RULES.md, 21.12): five words, then the three of each crew.
 use hold_lines::place::Place;
 use hold_year::year::Reading;
-use lists::words;
+use lent::words;
 ghost use mathlib.Core.Path.{_≡_};
 ghost use Prim.Native.Nat.{_+_, _≤_};
 ghost use lib.ListN.{length};
-ghost use Rattle.lists.specs.Outcome.{Gives, Handed};
+ghost use Rattle.lent.specs.Outcome.{Gives, Handed};
 ghost use Rattle.hold_exports.specs.Memory.{placeIn, readingIn, figuresIn, spelling, memoryWords};
 
 // What the words say where the reading stands; or that they are none of ours.

@@ -9,8 +9,8 @@ use native.Mathlib.Nat.{add-zero, zero-add}
 use native.Mathlib.Omega.{arith}
 use lib.IntN.{ℤ, _+ℤ_, +ℤ-idr}
 use lib.ListN.{length, getD, replicate, length-append}
-use Rattle.lists.specs.Listed.{listed}
-use Rattle.lists.specs.Rows.{wordsIn}
+use Rattle.lent.specs.Listed.{listed}
+use Rattle.lent.specs.Rows.{wordsIn}
 use Rattle.hold_lines.specs.Text.{Held, raisedOf}
 use Rattle.hold_figures.specs.Crews.{holdsOf, totalOf, largestOf, isSigned64}
 use Rattle.hold_figures.specs.Words.{crewWords, figuresOf, raisedSum, withCrew, Tally, Grown, Stopped, grownBy, tallied}

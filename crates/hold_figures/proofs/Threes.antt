@@ -7,9 +7,9 @@ use native.Mathlib.Nat.{add-zero, zero-add, suc-add}
 use native.Mathlib.Omega.{arith}
 use lib.ListN.{length, getD, set, List·getD-append}
 use lib.Seq.{getD-append-add}
-use Rattle.lists.specs.Listed.{listed}
-use Rattle.lists.specs.Rows.{wordsIn}
-use Rattle.lists.proofs.Listed.{listed-same}
+use Rattle.lent.specs.Listed.{listed}
+use Rattle.lent.specs.Rows.{wordsIn}
+use Rattle.lent.proofs.Listed.{listed-same}
 use Rattle.hold_figures.specs.Words.{withCrew}
 
 -- Word k of crew c is that of its own three.

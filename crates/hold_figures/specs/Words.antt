@@ -8,8 +8,8 @@ use lib.Dec.{eqb, leb, ltb}
 use lib.IntN.{ℤ}
 use lib.ListN.{length, getD, set}
 use Rattle.refusals.specs.Names.{LINE, OVERFLOW}
-use Rattle.lists.specs.Listed.{listed}
-use Rattle.lists.specs.Rows.{wordsIn}
+use Rattle.lent.specs.Listed.{listed}
+use Rattle.lent.specs.Rows.{wordsIn}
 use Rattle.hold_lines.specs.Text.{Held, raisedOf}
 use Rattle.hold_figures.specs.Crews.{holdsOf, totalOf, largestOf}
 use Rattle.hold_figures.specs.declared.figures.Sum.{Sum}

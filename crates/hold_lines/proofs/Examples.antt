@@ -5,7 +5,7 @@ use mathlib.Core.Path.{_≡_, refl}
 use mathlib.Core.List.{List}
 use mathlib.Core.Option.{none, some}
 use lib.IntN.{pos}
-use Rattle.lists.specs.Listed.{every}
+use Rattle.lent.specs.Listed.{every}
 use Rattle.texts.specs.Letters.{bytesOf}
 use Rattle.texts.specs.Reading.{isDigit, countOf, readFrom, numeralRead}
 use Rattle.hold_lines.specs.Text.{piecesAt, isDecimal, numberUpTo, holdIn, lineIn}

@@ -10,7 +10,7 @@ use borrow.Author.Tests.{eqb-true}
 use lib.Dec.{leb, eqb, eqb·suc-zero}
 use lib.IntN.{ℤ}
 use lib.ListN.{length}
-use Rattle.lists.specs.Listed.{every}
+use Rattle.lent.specs.Listed.{every}
 use Rattle.texts.specs.Reading.{isDigit, readFrom, numeralRead}
 use Rattle.hold_lines.specs.Text.{
   longerFirst,

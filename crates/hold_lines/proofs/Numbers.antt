@@ -8,7 +8,7 @@ use mathlib.Core.Option.{Option, none, some}
 use native.Mathlib.Omega.{arith}
 use borrow.Author.Tests.{lt-ltb, le-leb, lt-leb, leb-true, leb-false, eqb-true, eqb-false, ne-eqb}
 use lib.Dec.{leb, eqb}
-use Rattle.lists.specs.Listed.{every}
+use Rattle.lent.specs.Listed.{every}
 use Rattle.texts.specs.Reading.{isDigit, countOf, readFrom, numeralRead}
 use Rattle.hold_lines.specs.Text.{isDecimal, numberUpTo}
 use Rattle.hold_lines.specs.Place.{firstDigit, nextDigit}

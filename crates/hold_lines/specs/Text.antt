@@ -6,7 +6,7 @@ use mathlib.Core.List.{List, [], _∷_}
 use mathlib.Core.Option.{Option, none, some}
 use lib.Dec.{eqb, leb}
 use lib.IntN.{ℤ, pos, negsuc}
-use Rattle.lists.specs.Listed.{every}
+use Rattle.lent.specs.Listed.{every}
 use Rattle.texts.specs.Reading.{isDigit, numeralRead}
 
 -- ---- A text in pieces.

@@ -3,10 +3,10 @@
 use mathlib.Core.Path.{_≡_, refl}
 use mathlib.Core.List.{[], _∷_}
 use lib.IntN.{pos, negsuc}
-use Rattle.patterns.specs.Word.{signedOf}
+use Rattle.number_words.specs.Word.{signedOf}
 use Rattle.texts.specs.Letters.{bytesOf}
 use Rattle.texts.specs.Numerals.{glyph, decimalBy, decimalOf, signedText, countField, timeField}
-use Rattle.wording.specs.Lines.{line}
+use Rattle.reply_lines.specs.Lines.{line}
 use Rattle.hold_figures.specs.Crews.{totalOf, largestOf, meanOf, remainderOf}
 use Rattle.hold_report.specs.Report.{idleLine, figuresLine, crewLine}
 

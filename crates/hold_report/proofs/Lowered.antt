@@ -5,7 +5,7 @@ use mathlib.Core.Path.{_≡_, sym, _∙_}
 use borrow.Author.Tests.{lt-ltb, le-ltb}
 use native.Mathlib.Omega.{arith}
 use lib.IntN.{pos, negsuc}
-use Rattle.patterns.specs.Word.{wordOf}
+use Rattle.number_words.specs.Word.{wordOf}
 use Rattle.hold_figures.specs.Crews.{meanOf, remainderOf}
 use Rattle.hold_report.specs.Told.{loweredOf}
 

@@ -9,14 +9,14 @@ use native.Mathlib.Nat.{div-le-self, mod-lt}
 use native.Mathlib.Omega.{arith}
 use lib.IntN.{ℤ, pos, negsuc}
 use lib.ListN.{length, length-append}
-use Rattle.lists.specs.Listed.{listed}
-use Rattle.lists.specs.Rows.{wordsIn}
-use Rattle.patterns.specs.Word.{wordOf}
+use Rattle.lent.specs.Listed.{listed}
+use Rattle.lent.specs.Rows.{wordsIn}
+use Rattle.number_words.specs.Word.{wordOf}
 use Rattle.texts.specs.Letters.{bytesOf}
 use Rattle.texts.specs.Numerals.{countField, timeField}
 use Rattle.texts.proofs.Sizes.{count-digits, time-short}
-use Rattle.wording.specs.Lines.{line}
-use Rattle.wording.proofs.Sizes.{length-line}
+use Rattle.reply_lines.specs.Lines.{line}
+use Rattle.reply_lines.proofs.Sizes.{length-line}
 use Rattle.hold_lines.specs.Text.{Held}
 use Rattle.hold_figures.specs.Crews.{holdsOf, totalOf, largestOf, meanOf, remainderOf, isSigned64}
 use Rattle.hold_figures.proofs.Holds.{AllSigned, Sound, holds-few, largest-signed}

@@ -8,10 +8,10 @@ use borrow.Author.Tests.{eq-eqb, ne-eqb, ltb-true}
 use native.Mathlib.Omega.{arith}
 use lib.IntN.{ℤ, pos, negsuc}
 use lib.ListN.{length, getD}
-use Rattle.lists.specs.Rows.{wordsIn}
-use Rattle.lists.proofs.Listed.{listed-same}
+use Rattle.lent.specs.Rows.{wordsIn}
+use Rattle.lent.proofs.Listed.{listed-same}
 use Rattle.texts.specs.Numerals.{countField}
-use Rattle.wording.specs.Lines.{line}
+use Rattle.reply_lines.specs.Lines.{line}
 use Rattle.hold_lines.specs.Text.{Held, raisedOf}
 use Rattle.hold_figures.specs.Crews.{holdsOf, totalOf, largestOf, isSigned64}
 use Rattle.hold_figures.specs.Words.{crewWords, figuresOf}

@@ -4,11 +4,11 @@ use Prim.Native.Nat.{ℕ}
 use mathlib.Core.List.{List, [], _∷_, _++_}
 use lib.IntN.{ℤ}
 use lib.ListN.{length}
-use Rattle.lists.specs.Listed.{listed}
-use Rattle.lists.specs.Rows.{wordsIn}
-use Rattle.patterns.specs.Word.{wordOf}
+use Rattle.lent.specs.Listed.{listed}
+use Rattle.lent.specs.Rows.{wordsIn}
+use Rattle.number_words.specs.Word.{wordOf}
 use Rattle.texts.specs.Numerals.{countField, timeField}
-use Rattle.wording.specs.Lines.{line}
+use Rattle.reply_lines.specs.Lines.{line}
 use Rattle.hold_lines.specs.Text.{Held}
 use Rattle.hold_figures.specs.Crews.{holdsOf, totalOf, largestOf, meanOf, remainderOf}
 

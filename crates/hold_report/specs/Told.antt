@@ -6,10 +6,10 @@ use mathlib.Core.List.{List, _++_}
 use lib.Dec.{eqb, ltb}
 use lib.IntN.{ℤ, pos, negsuc}
 use lib.ListN.{getD}
-use Rattle.lists.specs.Listed.{listed}
-use Rattle.lists.specs.Rows.{wordsIn}
+use Rattle.lent.specs.Listed.{listed}
+use Rattle.lent.specs.Rows.{wordsIn}
 use Rattle.texts.specs.Numerals.{countField}
-use Rattle.wording.specs.Lines.{line}
+use Rattle.reply_lines.specs.Lines.{line}
 use Rattle.hold_report.specs.Report.{idleLine, figuresLine}
 
 -- The signed number that a raised one stands for.

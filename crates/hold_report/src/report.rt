@@ -5,8 +5,8 @@ use texts::room::Told;
 ghost use mathlib.Core.List.{_++_};
 ghost use Prim.Native.Nat.{_<_, _≤_, _+_};
 ghost use lib.ListN.{length};
-ghost use Rattle.lists.specs.Outcome.{Gives};
-ghost use Rattle.patterns.specs.Word.{wordOf};
+ghost use Rattle.lent.specs.Outcome.{Gives};
+ghost use Rattle.number_words.specs.Word.{wordOf};
 ghost use Rattle.texts.specs.Numerals.{countField, timeField};
 ghost use Rattle.texts.specs.Room.{PutText, Tells};
 ghost use Rattle.hold_figures.specs.Crews.{meanOf, remainderOf};
@@ -26,7 +26,10 @@ fn put_lowered(out: &mut [u8], at: usize, raised: u64) -> usize
 // Puts the mean of a raised total over so many rounds, rounded down, and what is left above it.
 fn put_mean(out: &mut [u8], at: usize, total: u64, rounds: u64) -> usize
     requires { ⌜ 0 < rounds ⌝ }
-    ensures { λ r. ⌜ PutText (timeField (wordOf (meanOf (loweredOf total) rounds)) ++ countField (remainderOf (loweredOf total) rounds)) (now (out .entry)) at (now (out .exit)) r ⌝ }
+    ensures { λ r. ⌜
+        PutText (timeField (wordOf (meanOf (loweredOf total) rounds)) ++ countField (remainderOf (loweredOf total) rounds))
+        (now (out .entry)) at (now (out .exit)) r
+        ⌝ }
 {
     if total < 9223372036854775808 {
         let below = 9223372036854775807 - total;
@@ -53,7 +56,9 @@ fn put_idle(out: &mut [u8], at: usize, crew: u64) -> usize
 // Puts the line of one with rounds.
 fn put_figures(out: &mut [u8], at: usize, crew: u64, rounds: u64, total: u64, largest: u64) -> usize
     requires { ⌜ 0 < rounds ⌝ }
-    ensures { λ r. ⌜ PutText (figuresLine crew rounds (loweredOf total) (loweredOf largest)) (now (out .entry)) at (now (out .exit)) r ⌝ }
+    ensures { λ r. ⌜
+        PutText (figuresLine crew rounds (loweredOf total) (loweredOf largest)) (now (out .entry)) at (now (out .exit)) r
+        ⌝ }
 {
     let mut next = room::put_word(out, at, b"crew");
     next = numerals::put_count(out, next, crew);

@@ -10,8 +10,8 @@ use native.Mathlib.Omega.{arith}
 use lib.Dec.{eqb, ltb}
 use lib.ListN.{length, replicate, length-append}
 use Rattle.refusals.specs.Names.{LINE, OVERFLOW}
-use Rattle.lists.specs.Outcome.{Outcome, Gives, Refuses}
-use Rattle.lists.specs.Rows.{wordsIn}
+use Rattle.lent.specs.Outcome.{Outcome, Gives, Refuses}
+use Rattle.lent.specs.Rows.{wordsIn}
 use Rattle.hold_lines.specs.Text.{Held, piecesAt, withoutEmptyEnd, linesIn, lineIn}
 use Rattle.hold_lines.specs.Place.{stepped, steppedBy, closed, lineHeld}
 use Rattle.hold_lines.specs.declared.place.Place.the-variants as P

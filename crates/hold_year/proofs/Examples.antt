@@ -3,8 +3,8 @@
 use mathlib.Core.Path.{_≡_, refl}
 use mathlib.Core.List.{[], _∷_}
 use lib.ListN.{replicate}
-use Rattle.lists.specs.Listed.{every}
-use Rattle.lists.specs.Outcome.{Refuses}
+use Rattle.lent.specs.Listed.{every}
+use Rattle.lent.specs.Outcome.{Refuses}
 use Rattle.texts.specs.Letters.{bytesOf}
 use Rattle.texts.specs.Reading.{isDigit, countOf, readFrom, numeralRead}
 use Rattle.hold_lines.specs.Text.{piecesAt, withoutEmptyEnd, linesIn, isDecimal, numberUpTo, holdIn, lineIn}

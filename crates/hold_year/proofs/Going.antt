@@ -11,7 +11,7 @@ use lib.Dec.{eqb, ltb}
 use lib.ListN.{length, getD, drop, replicate}
 use lib.Seq.{drop-cons, drop-length}
 use Rattle.refusals.specs.Names.{LINE}
-use Rattle.lists.specs.Outcome.{Gives, Refuses}
+use Rattle.lent.specs.Outcome.{Gives, Refuses}
 use Rattle.hold_lines.specs.Place.{stepped, closed}
 use Rattle.hold_lines.specs.declared.place.Place.{Place}
 use Rattle.hold_lines.specs.declared.place.Place.the-variants as P

@@ -11,8 +11,8 @@ use native.Mathlib.Omega.{arith}
 use lib.Dec.{eqb, leb, ltb}
 use lib.ListN.{length, replicate}
 use Rattle.refusals.specs.Names.{LINE}
-use Rattle.lists.specs.Outcome.{Gives, Refuses}
-use Rattle.lists.specs.Rows.{wordsIn}
+use Rattle.lent.specs.Outcome.{Gives, Refuses}
+use Rattle.lent.specs.Rows.{wordsIn}
 use Rattle.texts.specs.Reading.{isDigit}
 use Rattle.hold_lines.specs.Place.{firstDigit, nextDigit, withDigits, sizeFrom, stepped, closed}
 use Rattle.hold_lines.specs.declared.place.Place.{Place}

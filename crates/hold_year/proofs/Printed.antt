@@ -10,12 +10,12 @@ use native.Mathlib.Omega.{arith}
 use lib.Dec.{ltb}
 use lib.ListN.{length, replicate}
 use Rattle.refusals.specs.Names.{NO_ROOM}
-use Rattle.lists.specs.Outcome.{Outcome, Gives, Refuses, roomOf}
-use Rattle.lists.specs.Rows.{wordsIn}
+use Rattle.lent.specs.Outcome.{Outcome, Gives, Refuses, roomOf}
+use Rattle.lent.specs.Rows.{wordsIn}
 use Rattle.texts.specs.Room.{toldOf, toldNumber}
 use Rattle.texts.specs.declared.room.Told.the-variants.{Refused}
-use Rattle.wording.specs.Lines.{refusedLine, printed}
-use Rattle.wording.proofs.Sizes.{refused-short}
+use Rattle.reply_lines.specs.Lines.{refusedLine, printed}
+use Rattle.reply_lines.proofs.Sizes.{refused-short}
 use Rattle.hold_year.specs.Year.{yearReply}
 use Rattle.hold_year.specs.Parts.{On, Over, begun, fedParts, answerAfter, finished}
 use Rattle.hold_year.specs.Printed.{fitted, finishText, yearText}

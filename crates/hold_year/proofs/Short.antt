@@ -10,7 +10,7 @@ use native.Mathlib.Omega.{arith}
 use lib.Dec.{ltb}
 use lib.ListN.{length, length-append}
 use Rattle.refusals.specs.Names.{LINE, OVERFLOW}
-use Rattle.lists.specs.Outcome.{Outcome, Gives, Refuses}
+use Rattle.lent.specs.Outcome.{Outcome, Gives, Refuses}
 use Rattle.hold_lines.specs.Text.{Held, linesIn, lineIn}
 use Rattle.hold_figures.specs.Crews.{holdsOf, totalOf, isSigned64}
 use Rattle.hold_figures.proofs.Holds.{Sound, sound-none, sound-more}

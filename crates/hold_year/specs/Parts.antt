@@ -8,7 +8,7 @@ use mathlib.Core.List.{List, [], _∷_}
 use lib.Dec.{eqb, ltb}
 use lib.ListN.{replicate}
 use Rattle.refusals.specs.Names.{LINE}
-use Rattle.lists.specs.Outcome.{Outcome, Gives, Refuses}
+use Rattle.lent.specs.Outcome.{Outcome, Gives, Refuses}
 use Rattle.hold_lines.specs.Place.{stepped, closed}
 use Rattle.hold_lines.specs.declared.place.Place.{Place}
 use Rattle.hold_lines.specs.declared.place.Place.the-variants as P

@@ -6,8 +6,8 @@ use mathlib.Core.List.{List, _++_}
 use lib.Dec.{ltb}
 use lib.ListN.{length, replicate}
 use Rattle.refusals.specs.Names.{NO_ROOM}
-use Rattle.lists.specs.Outcome.{Outcome, Gives, Refuses}
-use Rattle.wording.specs.Lines.{printed}
+use Rattle.lent.specs.Outcome.{Outcome, Gives, Refuses}
+use Rattle.reply_lines.specs.Lines.{printed}
 use Rattle.hold_year.specs.declared.year.Reading.{Reading}
 use Rattle.hold_year.specs.Parts.{finished}
 use Rattle.hold_year.specs.Year.{yearReply}

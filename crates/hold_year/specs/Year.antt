@@ -7,7 +7,7 @@ use mathlib.Core.Option.{Option, none, some}
 use lib.Dec.{ltb}
 use lib.ListN.{length}
 use Rattle.refusals.specs.Names.{LINE, OVERFLOW}
-use Rattle.lists.specs.Outcome.{Outcome, Gives, Refuses}
+use Rattle.lent.specs.Outcome.{Outcome, Gives, Refuses}
 use Rattle.hold_lines.specs.Text.{Held, linesIn, lineIn}
 use Rattle.hold_figures.specs.Crews.{holdsOf, totalOf, isSigned64}
 use Rattle.hold_report.specs.Report.{reportOf}

@@ -1,12 +1,12 @@
 // What is printed of a year, in a room of 5,386 bytes, which is enough for every report (docs/RULES.md, 15.5 and 21.9).
 use crate::year;
 use crate::year::Reading;
+use reply_lines::line;
 use texts::room;
 use texts::room::Told;
-use wording::line;
 ghost use mathlib.Core.Path.{_≡_};
 ghost use lib.ListN.{length};
-ghost use Rattle.wording.specs.Lines.{refusedLine};
+ghost use Rattle.reply_lines.specs.Lines.{refusedLine};
 ghost use Rattle.hold_year.specs.Printed.{finishText, roomWith};
 
 // The one line of a refusal, with zero behind it: how long it is.

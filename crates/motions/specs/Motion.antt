@@ -3,8 +3,8 @@
 use mathlib.Core.Bool.{cond}
 use lib.Ieee
 use lib.Ieee.{Float, binary64}
-use Rattle.numbers.specs.Time.{spanBetween, secondsOf, withSpan}
-use Rattle.numbers.specs.declared.time.TimePoint.{TimePoint}
+use Rattle.times.specs.Time.{spanBetween, secondsOf, withSpan}
+use Rattle.times.specs.declared.time.TimePoint.{TimePoint}
 use Rattle.shapes.specs.Leg.{holds}
 use Rattle.shapes.specs.declared.waypoint.Leg.{Leg}
 use Rattle.shapes.specs.declared.vector.Vector.{Vector}

@@ -5,7 +5,7 @@ use lib.Ieee
 use lib.Ieee.{Float, binary64}
 use Rattle.refusals.specs.Names.{APART, STRAYED}
 use Rattle.floats.specs.Quadratic.{coefficientA, coefficientB, coefficientC}
-use Rattle.numbers.specs.declared.time.TimePoint.{TimePoint}
+use Rattle.times.specs.declared.time.TimePoint.{TimePoint}
 use Rattle.shapes.specs.declared.waypoint.Leg.{Leg}
 use Rattle.motions.specs.Motion.{motionAt}
 use Rattle.motions.specs.declared.motion.Motion.{Motion}

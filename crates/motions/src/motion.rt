@@ -1,8 +1,8 @@
 // Where a leg is at an instant and how fast it goes, as `Motion` of the Rust (docs/RULES.md, 8.1 to 8.3).
-use numbers::time::Span;
-use numbers::time::TimePoint;
 use shapes::vector::Vector;
 use shapes::waypoint::Leg;
+use times::time::Span;
+use times::time::TimePoint;
 ghost use mathlib.Core.Path.{_≡_};
 ghost use Rattle.motions.specs.Motion.{velocityOver, placeAfter, motionAt};
 

@@ -2,8 +2,8 @@
 use crate::motion;
 use crate::motion::Motion;
 use crate::motion::State;
-use numbers::time::TimePoint;
 use shapes::waypoint::Leg;
+use times::time::TimePoint;
 ghost use mathlib.Core.Path.{_≡_};
 ghost use Rattle.motions.specs.Quadratic.{quadraticOf, meetingFrom};
 

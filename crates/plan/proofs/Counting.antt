@@ -4,9 +4,9 @@ use Prim.Native.Nat.{ℕ, _≤_}
 use mathlib.Core.Path.{_≡_}
 use mathlib.Core.List.{List}
 use lib.ListN.{length, take}
-use Rattle.wording.proofs.Printed as W
-use Rattle.wording.proofs.Printed.{filledWith}
-use Rattle.answering.specs.Text.{streamText}
+use Rattle.reply_lines.proofs.Printed as W
+use Rattle.reply_lines.proofs.Printed.{filledWith}
+use Rattle.reply.specs.Text.{streamText}
 
 pub within : (s : List ℕ) (n : ℕ) (room : List ℕ) → n ≡ length (streamText s) → room ≡ filledWith (streamText s) 164517 →
     n ≤ length room

@@ -6,12 +6,12 @@ use mathlib.Core.List.{List, _∷_}
 use native.Mathlib.Omega.{arith}
 use lib.ListN.{length, take, replicate, length-append, length-replicate}
 use lib.Seq.{take-at}
-use Rattle.waits.specs.Words.{countIn, allWords}
-use Rattle.waits.specs.declared.hint_list.Filled.{Filled}
-use Rattle.waits.proofs.Reading.{few, counted}
-use Rattle.waits.proofs.Words.{length-words}
-use Rattle.ranking.specs.Hints.{Ranked, Of, Refused, Ranks, filledBy, rankedWords}
-use Rattle.lending.specs.Lent.{hintsOutcome}
+use Rattle.hint_list.specs.Words.{countIn, allWords}
+use Rattle.hint_list.specs.declared.entries.Filled.{Filled}
+use Rattle.hint_list.proofs.Reading.{few, counted}
+use Rattle.hint_list.proofs.Words.{length-words}
+use Rattle.hint_ranking.specs.Hints.{Ranked, Of, Refused, Ranks, filledBy, rankedWords}
+use Rattle.hint_words.specs.Lent.{hintsOutcome}
 use Rattle.plan_exports.specs.Given.{filledOutcome}
 
 -- The list that an answer leaves has 385 words.

@@ -1,1 +1,2 @@
 mod Given
+mod ArrivalWords

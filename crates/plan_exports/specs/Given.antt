@@ -2,9 +2,9 @@
 -- Assumes nothing.
 use Prim.Native.Nat.{ℕ}
 use mathlib.Core.List.{List}
-use Rattle.lists.specs.Outcome.{Outcome, Gives, Refuses}
-use Rattle.waits.specs.declared.hint_list.Filled.{Filled}
-use Rattle.waits.specs.declared.hint_list.Filled.the-variants as F
+use Rattle.lent.specs.Outcome.{Outcome, Gives, Refuses}
+use Rattle.hint_list.specs.declared.entries.Filled.{Filled}
+use Rattle.hint_list.specs.declared.entries.Filled.the-variants as F
 
 -- The words, or the refusal.
 abbrev pub filledOutcome : Filled → List ℕ → Outcome

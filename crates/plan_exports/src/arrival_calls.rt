@@ -1,14 +1,14 @@
 // The arrival times: the waypoint comes as plain numbers, the table of obstacles as lent lists.
-use arrival_handing::arrival_words;
-use numbers::time::TimePoint;
-use search::calls;
+use crate::arrival_words;
+use arrival_times::calls;
 use shapes::profile::CircularProfile;
 use shapes::waypoint::Waypoint;
-ghost use Rattle.lists.specs.Outcome.{Handed};
-ghost use Rattle.search.specs.Asked.{askedArrivals};
-ghost use Rattle.search.specs.Words.{arrivalsOutcome};
-ghost use Rattle.obstacles.specs.Lent.{lentOf};
-ghost use Rattle.taking.specs.Plain.{plainProfile, plainWaypoint};
+use times::time::TimePoint;
+ghost use Rattle.lent.specs.Outcome.{Handed};
+ghost use Rattle.arrival_times.specs.Asked.{askedArrivals};
+ghost use Rattle.arrival_times.specs.Words.{arrivalsOutcome};
+ghost use Rattle.table.specs.Lent.{lentOf};
+ghost use Rattle.shapes.specs.Plain.{plainProfile, plainWaypoint};
 
 // The safe arrival times at (x, y) from t on among the obstacles of a lent table; no search lists more than 289 of them.
 #[no_mangle]
@@ -25,7 +25,14 @@ pub extern "C" fn igelbert_arrival_times(
     ys: &[f64],
     out: &mut [u64],
 ) -> u64
-    ensures { λ r. ⌜ Handed (arrivalsOutcome (askedArrivals (plainProfile footprint follow) (plainWaypoint t x y) (lentOf (now (starts .entry)) (now (numbers .entry)) (now (times .entry)) (now (xs .entry)) (now (ys .entry))))) (now (out .entry)) (now (out .exit)) r ⌝ }
+    ensures { λ r. ⌜
+        Handed
+        (arrivalsOutcome
+        (askedArrivals (plainProfile footprint follow) (plainWaypoint t x y)
+        (lentOf (now (starts .entry)) (now (numbers .entry)) (now (times .entry)) (now (xs .entry))
+        (now (ys .entry)))))
+        (now (out .entry)) (now (out .exit)) r
+        ⌝ }
 {
     let p = CircularProfile { footprint, follow };
     let place = Waypoint {

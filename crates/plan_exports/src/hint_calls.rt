@@ -1,15 +1,15 @@
 // The hints: the agent comes as plain numbers, the table of obstacles as lent lists.
+use hint_list::entries;
+use hint_list::entries::Filled;
 use hints::calls;
-use lists::words;
+use lent::words;
+use shapes::legs;
 use shapes::profile::CircularProfile;
-use taking::legs;
-use waits::hint_list;
-use waits::hint_list::Filled;
-ghost use Rattle.lists.specs.Outcome.{Handed};
-ghost use Rattle.lending.specs.Lent.{hintsOutcome};
+ghost use Rattle.lent.specs.Outcome.{Handed};
+ghost use Rattle.hint_words.specs.Lent.{hintsOutcome};
 ghost use Rattle.hints.specs.Asked.{askedHints};
-ghost use Rattle.obstacles.specs.Lent.{lentOf};
-ghost use Rattle.taking.specs.Plain.{plainLeg, plainProfile};
+ghost use Rattle.table.specs.Lent.{lentOf};
+ghost use Rattle.shapes.specs.Plain.{plainLeg, plainProfile};
 ghost use Rattle.plan_exports.specs.Given.{filledOutcome};
 
 // Hands over the words of hints, or their refusal.
@@ -40,12 +40,19 @@ pub extern "C" fn igelbert_wait_hints(
     ys: &[f64],
     out: &mut [u64],
 ) -> u64
-    ensures { λ r. ⌜ Handed (hintsOutcome (askedHints (plainProfile footprint follow) (plainLeg t0 x0 y0 t1 x1 y1) (lentOf (now (starts .entry)) (now (numbers .entry)) (now (times .entry)) (now (xs .entry)) (now (ys .entry))))) (now (out .entry)) (now (out .exit)) r ⌝ }
+    ensures { λ r. ⌜
+        Handed
+        (hintsOutcome
+        (askedHints (plainProfile footprint follow) (plainLeg t0 x0 y0 t1 x1 y1)
+        (lentOf (now (starts .entry)) (now (numbers .entry)) (now (times .entry)) (now (xs .entry))
+        (now (ys .entry)))))
+        (now (out .entry)) (now (out .exit)) r
+        ⌝ }
 {
     let p = CircularProfile { footprint, follow };
     let agent = legs::leg_of(t0, x0, y0, t1, x1, y1);
     let mut hints = [0u64; 385];
     let filled = calls::wait_hints(p, agent, starts, numbers, times, xs, ys, &mut hints);
-    let end = 1 + 6 * hint_list::count_of(&hints);
+    let end = 1 + 6 * entries::count_of(&hints);
     give_hints(filled, &hints[..end], out)
 }

@@ -8,12 +8,12 @@ use lib.Dec.{ltb, leb→le}
 use lib.IntN.{ℤ, pos, negsuc, natAbs, _-ℤ_, +ℤ-invr}
 use lib.Signed.{_≤ℤ_, _<ℤ_, ≤ℤ-refl, clashℤ}
 use lib.Ieee.{Float}
-use Rattle.numbers.specs.Time.{isExact, spanBetween}
-use Rattle.numbers.specs.declared.time.Duration.{Duration}
-use Rattle.numbers.specs.declared.time.Span.the-variants as S
-use Rattle.numbers.proofs.Answers.{span-made}
-use Rattle.numbers.proofs.Integers.{below→at-most, below-or-at-most, at-most-trans, difference-mono}
-use Rattle.limits.specs.declared.domain.Examined.the-variants as X
+use Rattle.times.specs.Time.{isExact, spanBetween}
+use Rattle.times.specs.declared.time.Duration.{Duration}
+use Rattle.times.specs.declared.time.Span.the-variants as S
+use Rattle.times.proofs.Answers.{span-made}
+use Rattle.times.proofs.Integers.{below→at-most, below-or-at-most, at-most-trans, difference-mono}
+use Rattle.domain.specs.declared.limits.Examined.the-variants as X
 use Rattle.shapes.specs.declared.waypoint.Leg.{Leg}
 use Rattle.motions.specs.Quadratic.{meetingFrom}
 use Rattle.proximity.specs.Range.{rangeStart, rangeEnd}

@@ -9,19 +9,19 @@ use lib.Signed.{_≤ℤ_}
 use lib.Ieee.{Float}
 use Rattle.floats.proofs.Relations.{_≼_}
 use Rattle.floats.specs.Constants.{nought}
-use Rattle.numbers.specs.Time.{spanBetween, instantAfter, instantAfterSeconds, secondsOf}
-use Rattle.numbers.specs.declared.time.TimePoint.{TimePoint}
-use Rattle.numbers.specs.declared.time.Instant.the-variants as I
-use Rattle.numbers.specs.declared.time.Span.the-variants as S
-use Rattle.numbers.proofs.Cut.{nanosecondsOf}
-use Rattle.numbers.proofs.Answers.{span-made}
-use Rattle.numbers.proofs.Integers.{at-most-trans, sum-mono, difference-not-below, size-at-most}
-use Rattle.numbers.proofs.Exact.{smaller-exact, difference-exact}
-use Rattle.numbers.proofs.Order.{between-size}
-use Rattle.numbers.proofs.Spans.{spanFrom, between-given}
-use Rattle.numbers.proofs.Width.{in-width}
-use Rattle.limits.specs.Domain.{isTime}
-use Rattle.limits.proofs.Limits.{time-not-below, time-at-most, time-exact}
+use Rattle.times.specs.Time.{spanBetween, instantAfter, instantAfterSeconds, secondsOf}
+use Rattle.times.specs.declared.time.TimePoint.{TimePoint}
+use Rattle.times.specs.declared.time.Instant.the-variants as I
+use Rattle.times.specs.declared.time.Span.the-variants as S
+use Rattle.times.proofs.Cut.{nanosecondsOf}
+use Rattle.times.proofs.Answers.{span-made}
+use Rattle.times.proofs.Integers.{at-most-trans, sum-mono, difference-not-below, size-at-most}
+use Rattle.times.proofs.Exact.{smaller-exact, difference-exact}
+use Rattle.times.proofs.Order.{between-size}
+use Rattle.times.proofs.Spans.{spanFrom, between-given}
+use Rattle.times.proofs.Width.{in-width}
+use Rattle.domain.specs.Domain.{isTime}
+use Rattle.domain.proofs.Within.{time-not-below, time-at-most, time-exact}
 
 time-size : (t : TimePoint) → isTime t ≡ true → natAbs (t .0) ≤ 2 ^ 52
 time-size t h = omega (arith, size-at-most (t .0) (10 ^ 15) (time-not-below t h) (time-at-most t h))

@@ -5,7 +5,7 @@ use mathlib.Core.List.{[], _∷_}
 use types.Run.{OneOf, miss}
 use denote.Enum.Declared.{tagOf}
 use lib.Ieee.{Float}
-use Rattle.numbers.specs.declared.time.TimePoint.{TimePoint}
+use Rattle.times.specs.declared.time.TimePoint.{TimePoint}
 use Rattle.proximity.specs.Range.{nearBy, orAtEnd}
 use Rattle.motions.specs.declared.motion.Motion.{Motion}
 use Rattle.motions.specs.declared.motion.Motion.the-variants as M

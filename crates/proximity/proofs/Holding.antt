@@ -5,10 +5,10 @@ use mathlib.Core.Logic.{_⊎_, inl, inr}
 use mathlib.Core.Bool.{true, false, not, _&&_, and-false, true≢false}
 use lib.Signed.{ltZ, _≤ℤ_, _<ℤ_, ltZ-no, ≤ℤ-refl}
 use Rattle.floats.proofs.Tests.{passed}
-use Rattle.numbers.specs.declared.time.TimePoint.{TimePoint}
-use Rattle.numbers.proofs.Integers.{at-most→not-below, below-or-at-most, at-most-trans}
-use Rattle.numbers.proofs.Order.{Chosen, later, earlier, chosen-has}
-use Rattle.numbers.proofs.Exact.{both}
+use Rattle.times.specs.declared.time.TimePoint.{TimePoint}
+use Rattle.times.proofs.Integers.{at-most→not-below, below-or-at-most, at-most-trans}
+use Rattle.times.proofs.Order.{Chosen, later, earlier, chosen-has}
+use Rattle.times.proofs.Exact.{both}
 use Rattle.shapes.specs.Leg.{holds, isInside}
 use Rattle.shapes.specs.declared.waypoint.Leg.{Leg}
 use Rattle.proximity.specs.Range.{rangeStart, rangeEnd}

@@ -6,12 +6,12 @@ use mathlib.Core.Logic.{_⊎_, inl, inr}
 use mathlib.Core.Bool.{Bool, true, false, _&&_, cond, true≢false}
 use lib.Signed.{_≤ℤ_}
 use lib.Ieee.{Float}
-use Rattle.numbers.specs.Time.{isExact, spanBetween, secondsOf, withSpan}
-use Rattle.numbers.specs.declared.time.TimePoint.{TimePoint}
-use Rattle.numbers.specs.declared.time.Duration.{Duration}
-use Rattle.numbers.specs.declared.time.Span.{Span}
-use Rattle.numbers.specs.declared.time.Span.the-variants as S
-use Rattle.numbers.proofs.Spans.{part-given}
+use Rattle.times.specs.Time.{isExact, spanBetween, secondsOf, withSpan}
+use Rattle.times.specs.declared.time.TimePoint.{TimePoint}
+use Rattle.times.specs.declared.time.Duration.{Duration}
+use Rattle.times.specs.declared.time.Span.{Span}
+use Rattle.times.specs.declared.time.Span.the-variants as S
+use Rattle.times.proofs.Spans.{part-given}
 use Rattle.shapes.specs.Leg.{holds}
 use Rattle.shapes.specs.declared.waypoint.Leg.{Leg}
 use Rattle.motions.specs.Motion.{velocityOver, placeAfter, motionAt}

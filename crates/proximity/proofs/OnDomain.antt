@@ -18,16 +18,16 @@ use Rattle.floats.proofs.Tests.{passed, failed}
 use Rattle.floats.proofs.Preorder.{left-known, right-known}
 use Rattle.floats.proofs.Strict.{not-lt→le}
 use Rattle.floats.proofs.Larger.{larger-has, larger-not-below}
-use Rattle.numbers.specs.Time.{secondsOf}
-use Rattle.numbers.specs.declared.time.TimePoint.{TimePoint}
-use Rattle.numbers.proofs.Cut.{nanosecondsOf}
-use Rattle.numbers.proofs.Integers.{sum-mono, difference-not-below}
-use Rattle.numbers.proofs.Seconds.{seconds-known, seconds-not-below, nanoseconds-mono}
-use Rattle.numbers.proofs.Spans.{spanFrom}
-use Rattle.limits.specs.Domain.{isTime, isLimit, isLeg}
-use Rattle.limits.specs.declared.domain.Examined.the-variants as X
+use Rattle.times.specs.Time.{secondsOf}
+use Rattle.times.specs.declared.time.TimePoint.{TimePoint}
+use Rattle.times.proofs.Cut.{nanosecondsOf}
+use Rattle.times.proofs.Integers.{sum-mono, difference-not-below}
+use Rattle.times.proofs.Seconds.{seconds-known, seconds-not-below, nanoseconds-mono}
+use Rattle.times.proofs.Spans.{spanFrom}
+use Rattle.domain.specs.Domain.{isTime, isLimit, isLeg}
+use Rattle.domain.specs.declared.limits.Examined.the-variants as X
 use Rattle.shapes.specs.declared.waypoint.Leg.{Leg}
-use Rattle.limits.proofs.Limits.{time-exact, limit-within}
+use Rattle.domain.proofs.Within.{time-exact, limit-within}
 use Rattle.proximity.specs.Range.{rangeStart, rangeEnd, isShort, nearAt, orAtEnd, shortRange}
 use Rattle.proximity.specs.Proximity.{withoutMotion, passage, byRoots, longRange, proximityOf}
 use Rattle.proximity.specs.Asked.{legsExamined, askedProximity}

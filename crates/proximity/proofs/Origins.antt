@@ -15,15 +15,15 @@ use Rattle.floats.proofs.Tests.{passed, failed}
 use Rattle.floats.proofs.Preorder.{left-known}
 use Rattle.floats.proofs.Strict.{not-lt→le}
 use Rattle.floats.proofs.Larger.{larger-not-below}
-use Rattle.numbers.specs.Time.{spanBetween, instantAfterSeconds, secondsOf, withSpan, withInstant}
-use Rattle.numbers.specs.declared.time.TimePoint.{TimePoint}
-use Rattle.numbers.specs.declared.time.Duration.{Duration}
-use Rattle.numbers.specs.declared.time.Span.{Span}
-use Rattle.numbers.specs.declared.time.Span.the-variants as S
-use Rattle.numbers.specs.declared.time.Instant.{Instant}
-use Rattle.numbers.specs.declared.time.Instant.the-variants as I
-use Rattle.numbers.proofs.Answers.{span-made}
-use Rattle.numbers.proofs.Spans.{Since, since-itself, since-after}
+use Rattle.times.specs.Time.{spanBetween, instantAfterSeconds, secondsOf, withSpan, withInstant}
+use Rattle.times.specs.declared.time.TimePoint.{TimePoint}
+use Rattle.times.specs.declared.time.Duration.{Duration}
+use Rattle.times.specs.declared.time.Span.{Span}
+use Rattle.times.specs.declared.time.Span.the-variants as S
+use Rattle.times.specs.declared.time.Instant.{Instant}
+use Rattle.times.specs.declared.time.Instant.the-variants as I
+use Rattle.times.proofs.Answers.{span-made}
+use Rattle.times.proofs.Spans.{Since, since-itself, since-after}
 use Rattle.root.specs.Root.{rootOf, withRoot}
 use Rattle.root.specs.declared.nearest.Root.{Root}
 use Rattle.root.specs.declared.nearest.Root.the-variants as R

@@ -6,13 +6,13 @@ use mathlib.Core.Bool.{Bool, true, false, _&&_, cond, true≢false}
 use lib.Ieee.{Float}
 use Rattle.floats.proofs.Magnitude.{Within}
 use Rattle.floats.proofs.Largest.{farthest, widest}
-use Rattle.numbers.proofs.Exact.{both}
-use Rattle.numbers.proofs.Order.{chosen-has}
+use Rattle.times.proofs.Exact.{both}
+use Rattle.times.proofs.Order.{chosen-has}
 use Rattle.shapes.specs.Leg.{isBackward, isRising}
-use Rattle.limits.specs.Domain.{isTime, isLimit, isLeg}
-use Rattle.limits.specs.declared.domain.Examined.the-variants as X
+use Rattle.domain.specs.Domain.{isTime, isLimit, isLeg}
+use Rattle.domain.specs.declared.limits.Examined.the-variants as X
 use Rattle.shapes.specs.declared.waypoint.Leg.{Leg}
-use Rattle.limits.proofs.Limits as L
+use Rattle.domain.proofs.Within as L
 use Rattle.proximity.specs.Range.{rangeStart, rangeEnd}
 use Rattle.proximity.specs.Asked.{legsExamined}
 use Rattle.proximity.proofs.Holding.{starts, ends}

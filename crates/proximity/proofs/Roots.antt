@@ -16,12 +16,12 @@ use Rattle.floats.proofs.Tests.{failed}
 use Rattle.floats.proofs.Strict.{not-lt→le}
 use Rattle.floats.proofs.NotANumber.{finite-known}
 use Rattle.floats.proofs.Meeting as F
-use Rattle.numbers.specs.Time.{spanBetween, secondsOf}
-use Rattle.numbers.specs.declared.time.TimePoint.{TimePoint}
-use Rattle.numbers.specs.declared.time.Duration.{Duration}
-use Rattle.numbers.specs.declared.time.Span.the-variants as S
-use Rattle.numbers.proofs.Answers.{span-made}
-use Rattle.numbers.proofs.Seconds.{seconds-finite, seconds-within-power}
+use Rattle.times.specs.Time.{spanBetween, secondsOf}
+use Rattle.times.specs.declared.time.TimePoint.{TimePoint}
+use Rattle.times.specs.declared.time.Duration.{Duration}
+use Rattle.times.specs.declared.time.Span.the-variants as S
+use Rattle.times.proofs.Answers.{span-made}
+use Rattle.times.proofs.Seconds.{seconds-finite, seconds-within-power}
 use Rattle.root.specs.Root.{IsRoot, rootOf}
 use Rattle.root.specs.declared.nearest.Root.the-variants as R
 use Rattle.root.proofs.Given.{root-given}

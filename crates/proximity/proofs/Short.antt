@@ -16,13 +16,13 @@ use Rattle.floats.specs.Constants.{tenThousandth}
 use Rattle.floats.proofs.Tests.{is-true}
 use Rattle.floats.proofs.Preorder.{le-trans}
 use Rattle.floats.proofs.Strict.{le-lt-trans, le→not-lt}
-use Rattle.numbers.specs.Time.{spanBetween, secondsOf}
-use Rattle.numbers.specs.declared.time.Duration.{Duration}
-use Rattle.numbers.specs.declared.time.Span.the-variants as S
-use Rattle.numbers.proofs.Answers.{span-made}
-use Rattle.numbers.proofs.Integers.{at-most-trans, difference-mono, difference-not-below}
-use Rattle.numbers.proofs.Exact.{size-turned}
-use Rattle.numbers.proofs.Seconds.{seconds-mono, seconds-size}
+use Rattle.times.specs.Time.{spanBetween, secondsOf}
+use Rattle.times.specs.declared.time.Duration.{Duration}
+use Rattle.times.specs.declared.time.Span.the-variants as S
+use Rattle.times.proofs.Answers.{span-made}
+use Rattle.times.proofs.Integers.{at-most-trans, difference-mono, difference-not-below}
+use Rattle.times.proofs.Exact.{size-turned}
+use Rattle.times.proofs.Seconds.{seconds-mono, seconds-size}
 use Rattle.shapes.specs.declared.waypoint.Leg.{Leg}
 use Rattle.proximity.specs.Range.{rangeStart, rangeEnd, isShort}
 

@@ -7,8 +7,8 @@ use Prim.Native.Nat.{ℕ, _<_}
 use lib.Dec.{lit<}
 use lib.Signed.{_≤ℤ_}
 use lib.Ieee.{Float}
-use Rattle.numbers.specs.declared.time.TimePoint.{TimePoint}
-use Rattle.numbers.proofs.Integers.{at-most-trans}
+use Rattle.times.specs.declared.time.TimePoint.{TimePoint}
+use Rattle.times.proofs.Integers.{at-most-trans}
 use Rattle.shapes.specs.Leg.{isInside}
 use Rattle.shapes.specs.declared.waypoint.Leg.{Leg}
 use Rattle.proximity.specs.Range.{rangeStart}

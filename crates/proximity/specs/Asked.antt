@@ -4,12 +4,12 @@ use mathlib.Core.Bool.{cond, _&&_}
 use mathlib.Core.List.{[], _∷_}
 use lib.Ieee.{Float, binary64, toBits}
 use Rattle.refusals.specs.Names.{NUMBER, SHAPE, BACKWARD, STRAYED}
-use Rattle.lists.specs.Outcome.{Outcome, Gives, Refuses}
-use Rattle.numbers.specs.declared.time.TimePoint.{TimePoint}
+use Rattle.lent.specs.Outcome.{Outcome, Gives, Refuses}
+use Rattle.times.specs.declared.time.TimePoint.{TimePoint}
 use Rattle.shapes.specs.Leg.{isBackward, isRising}
-use Rattle.limits.specs.Domain.{isTime, isLimit, isLeg}
-use Rattle.limits.specs.declared.domain.Examined.{Examined}
-use Rattle.limits.specs.declared.domain.Examined.the-variants as X
+use Rattle.domain.specs.Domain.{isTime, isLimit, isLeg}
+use Rattle.domain.specs.declared.limits.Examined.{Examined}
+use Rattle.domain.specs.declared.limits.Examined.the-variants as X
 use Rattle.shapes.specs.declared.waypoint.Leg.{Leg}
 use Rattle.motions.specs.Motion.{motionAt}
 use Rattle.proximity.specs.Proximity.{proximityOf}

@@ -5,14 +5,14 @@ use mathlib.Core.List.{[], _∷_}
 use lib.Ieee
 use lib.Ieee.{Float}
 use Rattle.refusals.specs.Names.{NUMBER, CREEP, STRAYED}
-use Rattle.lists.specs.Outcome.{Outcome, Gives, Refuses}
+use Rattle.lent.specs.Outcome.{Outcome, Gives, Refuses}
 use Rattle.floats.specs.Constants.{nought}
 use Rattle.floats.specs.Compare.{largerOf, sizeOf}
 use Rattle.floats.specs.Quadratic.{radicand, lower, upper}
 use Rattle.floats.specs.Constants.{hundredMillionth, tenThousandth}
-use Rattle.patterns.specs.Word.{wordOf}
-use Rattle.numbers.specs.Time.{spanBetween, instantAfterSeconds, secondsOf, withSpan, withInstant}
-use Rattle.numbers.specs.declared.time.TimePoint.{TimePoint}
+use Rattle.number_words.specs.Word.{wordOf}
+use Rattle.times.specs.Time.{spanBetween, instantAfterSeconds, secondsOf, withSpan, withInstant}
+use Rattle.times.specs.declared.time.TimePoint.{TimePoint}
 use Rattle.root.specs.Root.{rootOf, withRoot}
 use Rattle.shapes.specs.declared.waypoint.Leg.{Leg}
 use Rattle.motions.specs.Quadratic.{meetingFrom, withMeeting}

@@ -7,9 +7,9 @@ use Rattle.refusals.specs.Names.{STRAYED}
 use Rattle.floats.specs.Quadratic.{dot}
 use Rattle.floats.specs.Compare.{sizeOf}
 use Rattle.floats.specs.Constants.{tenThousandth}
-use Rattle.numbers.specs.Time.{laterOf, earlierOf, secondsOf}
-use Rattle.numbers.specs.declared.time.TimePoint.{TimePoint}
-use Rattle.numbers.specs.declared.time.Duration.{Duration}
+use Rattle.times.specs.Time.{laterOf, earlierOf, secondsOf}
+use Rattle.times.specs.declared.time.TimePoint.{TimePoint}
+use Rattle.times.specs.declared.time.Duration.{Duration}
 use Rattle.shapes.specs.declared.waypoint.Leg.{Leg}
 use Rattle.shapes.specs.declared.vector.Vector.{Vector}
 use Rattle.motions.specs.Motion.{motionAt}

@@ -1,13 +1,13 @@
 // The calls for motion and proximity: each examines its own input, then does the work (docs/RULES.md, 5.1 to 5.4 and 5.11).
 use crate::detect;
 use crate::detect::Proximity;
-use limits::domain;
-use limits::domain::Examined;
+use domain::limits;
+use domain::limits::Examined;
 use motions::motion;
 use motions::motion::Motion;
 use motions::motion::State;
-use numbers::time::TimePoint;
 use shapes::waypoint::Leg;
+use times::time::TimePoint;
 ghost use mathlib.Core.Path.{_≡_};
 ghost use Rattle.proximity.specs.Asked.{askedPosition, legsExamined, askedProximity};
 
@@ -22,10 +22,10 @@ pub enum Whereabouts {
 pub fn position(leg: Leg, t: TimePoint) -> Whereabouts
     ensures { λ r. ⌜ r ≡ askedPosition leg t ⌝ }
 {
-    if !domain::is_leg(leg) {
+    if !limits::is_leg(leg) {
         return Whereabouts::Refused(refusals::NUMBER);
     }
-    if !domain::is_time(t) {
+    if !limits::is_time(t) {
         return Whereabouts::Refused(refusals::NUMBER);
     }
     if leg.is_backward() {
@@ -46,13 +46,13 @@ pub fn examine_legs(limit: f64, agent: Leg, obstacle: Leg) -> Examined
     if !obstacle.is_rising() {
         return Examined::Refused(refusals::SHAPE);
     }
-    if !domain::is_leg(agent) {
+    if !limits::is_leg(agent) {
         return Examined::Refused(refusals::NUMBER);
     }
-    if !domain::is_limit(limit) {
+    if !limits::is_limit(limit) {
         return Examined::Refused(refusals::NUMBER);
     }
-    if !domain::is_leg(obstacle) {
+    if !limits::is_leg(obstacle) {
         return Examined::Refused(refusals::NUMBER);
     }
     if agent.is_backward() {

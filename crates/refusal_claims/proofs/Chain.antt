@@ -4,12 +4,12 @@ use Prim.Native.Nat.{ℕ, zero, suc, _+_, _-_}
 use mathlib.Core.Bool.{Bool, true, false}
 use mathlib.Core.Option.{Option, none, some}
 use lib.Dec.{ltb, leb}
-use Rattle.chains.specs.Answer.{Chained, Way, NoWay, Refused}
-use Rattle.chains.specs.Recursive as R
-use Rattle.chains.specs.Recursive.{Tried, Found, Blocked, Unreached, Stopped}
-use Rattle.chains.specs.Recursive.{popped, arrivedBy, startedBy, offer, afterChild, atRoot, pastLastRoot}
-use Rattle.chains.specs.declared.trial.Trial.{Trial}
-use Rattle.chains.specs.declared.trial.Trial.the-variants as T
+use Rattle.path_search.specs.Answer.{Chained, Way, NoWay, Refused}
+use Rattle.path_search.specs.Recursive as R
+use Rattle.path_search.specs.Recursive.{Tried, Found, Blocked, Unreached, Stopped}
+use Rattle.path_search.specs.Recursive.{popped, arrivedBy, startedBy, offer, afterChild, atRoot, pastLastRoot}
+use Rattle.path_search.specs.declared.trial.Trial.{Trial}
+use Rattle.path_search.specs.declared.trial.Trial.the-variants as T
 
 -- A test, and a search, whose refusals are such numbers.
 abbrev pub Tests : (ℕ → Type 0) → Trial → Type 0

@@ -3,15 +3,15 @@
 use Prim.Native.Nat.{ℕ}
 use mathlib.Core.Bool.{Bool, true, false, _&&_, cond}
 use lib.Dec.{eqb}
-use Rattle.limits.specs.Domain.{isLeg, isProfile}
+use Rattle.domain.specs.Domain.{isLeg, isProfile}
 use Rattle.shapes.specs.Leg.{isBackward}
-use Rattle.limits.specs.declared.domain.Examined.{Examined}
-use Rattle.limits.specs.declared.domain.Examined.the-variants.{Fine, Refused}
+use Rattle.domain.specs.declared.limits.Examined.{Examined}
+use Rattle.domain.specs.declared.limits.Examined.the-variants.{Fine, Refused}
 use Rattle.shapes.specs.declared.profile.CircularProfile.{CircularProfile}
 use Rattle.shapes.specs.declared.waypoint.Leg.{Leg}
-use Rattle.obstacles.specs.Examined.{isShaped, areAllowed, agentExamined}
-use Rattle.obstacles.specs.Lent.{Lent}
-use Rattle.asking.specs.Beside.{numbered, withNumbers, withLent}
+use Rattle.table.specs.Examined.{isLaid, isShaped, areAllowed, tableExamined, agentExamined}
+use Rattle.table.specs.Lent.{Lent, obstaclesOf}
+use Rattle.domain.specs.Beside.{numbered, withNumbers, withLent}
 
 -- An examination whose refusals are such numbers.
 abbrev pub Finds : (ℕ → Type 0) → Examined → Type 0
@@ -20,8 +20,10 @@ Finds N (Refused n) = N n
 
 module _ (N : ℕ → Type 0) (one : N 1) (two : N 2) where
   pub agent-finds : N 3 → (p : CircularProfile) (agent : Leg) (lent : Lent) → Finds N (agentExamined p agent lent)
-  unfolding agentExamined
-  agent-finds three p agent lent = by (isShaped lent) (isProfile p && (isLeg agent && areAllowed lent)) (isBackward agent)
+  unfolding agentExamined tableExamined
+  agent-finds three p agent lent =
+      let os = obstaclesOf lent in
+      by (isLaid lent && isShaped os) (isProfile p && (isLeg agent && areAllowed os)) (isBackward agent)
     where
       by : (shaped allowed backward : Bool) →
           Finds N (cond shaped (cond allowed (cond backward (Refused 3) Fine) (Refused 1)) (Refused 2))

@@ -5,13 +5,13 @@ use mathlib.Core.Path.{_≡_, refl}
 use mathlib.Core.Logic.{_⊎_, inl, inr, ⊎-elim}
 use mathlib.Core.Bool.{Bool, true, false, true≢false}
 use Rattle.shapes.specs.Leg.{isBrief}
-use Rattle.limits.specs.declared.domain.Examined.{Examined}
-use Rattle.limits.specs.declared.domain.Examined.the-variants as X
+use Rattle.domain.specs.declared.limits.Examined.{Examined}
+use Rattle.domain.specs.declared.limits.Examined.the-variants as X
 use Rattle.shapes.specs.declared.profile.CircularProfile.{CircularProfile}
 use Rattle.shapes.specs.declared.waypoint.Leg.{Leg}
-use Rattle.obstacles.specs.Examined.{agentExamined}
-use Rattle.obstacles.specs.Lent.{Lent}
-use Rattle.ranking.specs.Hints.{Refused}
+use Rattle.table.specs.Examined.{agentExamined}
+use Rattle.table.specs.Lent.{Lent}
+use Rattle.hint_ranking.specs.Hints.{Refused}
 use Rattle.hints.specs.Asked.{askedHints}
 use Rattle.hints.proofs.Answered.{asked-refused, asked-short, asked-answered}
 use Rattle.refusal_claims.specs.Numbers.{HintsRefusal, Number, Shape, Backward, NoLine, Strayed, Full}

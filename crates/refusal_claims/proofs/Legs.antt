@@ -5,12 +5,12 @@ use mathlib.Core.Path.{_≡_, refl}
 use mathlib.Core.Logic.{inl, inr}
 use mathlib.Core.Bool.{Bool, true, false, _&&_, cond, true≢false}
 use lib.Ieee.{Float}
-use Rattle.numbers.specs.declared.time.TimePoint.{TimePoint}
+use Rattle.times.specs.declared.time.TimePoint.{TimePoint}
 use Rattle.shapes.specs.Box.{boxOfLeg}
-use Rattle.limits.specs.Domain.{isLimit, isLeg, isProfile}
+use Rattle.domain.specs.Domain.{isLimit, isLeg, isProfile}
 use Rattle.shapes.specs.Leg.{isBackward, isRising}
-use Rattle.limits.specs.declared.domain.Examined.{Examined}
-use Rattle.limits.specs.declared.domain.Examined.the-variants as X
+use Rattle.domain.specs.declared.limits.Examined.{Examined}
+use Rattle.domain.specs.declared.limits.Examined.the-variants as X
 use Rattle.shapes.specs.declared.profile.CircularProfile.{CircularProfile}
 use Rattle.shapes.specs.declared.waypoint.Leg.{Leg}
 use Rattle.proximity.specs.Asked.{legsExamined, askedProximity}

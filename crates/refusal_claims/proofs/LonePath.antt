@@ -5,30 +5,30 @@ use mathlib.Core.Path.{_≡_, refl}
 use mathlib.Core.Bool.{Bool, true, false, _&&_, cond}
 use mathlib.Core.List.{List}
 use lib.ListN.{length}
-use Rattle.numbers.specs.declared.time.TimePoint.{TimePoint}
-use Rattle.limits.specs.Domain.{isTime}
+use Rattle.times.specs.declared.time.TimePoint.{TimePoint}
+use Rattle.domain.specs.Domain.{isTime}
 use Rattle.shapes.specs.Leg.{isBrief}
-use Rattle.limits.specs.declared.domain.Examined.{Examined}
-use Rattle.limits.specs.declared.domain.Examined.the-variants as X
+use Rattle.domain.specs.declared.limits.Examined.{Examined}
+use Rattle.domain.specs.declared.limits.Examined.the-variants as X
 use Rattle.shapes.specs.declared.profile.CircularProfile.{CircularProfile}
 use Rattle.shapes.specs.declared.waypoint.Leg.{Leg}
-use Rattle.obstacles.specs.Examined.{agentExamined}
-use Rattle.obstacles.specs.Lent.{Lent, obstaclesOf}
-use Rattle.obstacles.specs.Obstacle.{Obstacle}
-use Rattle.obstacles.proofs.Accepted.{accepted}
-use Rattle.ranking.specs.Hints as R
-use Rattle.ranking.specs.Hints.{Ranked}
-use Rattle.lending.specs.Lent.{lentHints}
-use Rattle.waits.specs.declared.hint.RankedHint.{RankedHint}
+use Rattle.table.specs.Examined.{agentExamined}
+use Rattle.table.specs.Lent.{Lent, obstaclesOf}
+use Rattle.table.specs.Obstacle.{Obstacle}
+use Rattle.table.proofs.Accepted.{accepted}
+use Rattle.hint_ranking.specs.Hints as R
+use Rattle.hint_ranking.specs.Hints.{Ranked}
+use Rattle.hint_words.specs.Lent.{lentHints}
+use Rattle.hint_list.specs.declared.hint.RankedHint.{RankedHint}
 use Rattle.hints.specs.Contour.{scaleOf}
 use Rattle.hints.specs.declared.contour.Scaling.{Scaling}
 use Rattle.hints.specs.declared.contour.Scaling.the-variants as L
 use Rattle.hints.proofs.Reaches.{Scaled, scale-given}
-use Rattle.arrival_paths.specs.Path.{Refused}
-use Rattle.asking.specs.Beside.{isBudget, withNumbers, withLent}
-use Rattle.arrival_paths.specs.Asked.{lonePath, askedPath}
-use Rattle.plans.specs.Plan.{tripOf}
-use Rattle.asking.proofs.Fine.{numbers-fine, lent-not-fine}
+use Rattle.one_path.specs.Path.{Refused}
+use Rattle.domain.specs.Beside.{isBudget, withNumbers, withLent}
+use Rattle.one_path.specs.Asked.{lonePath, askedPath}
+use Rattle.plan_model.specs.Plan.{tripOf}
+use Rattle.domain.proofs.Fine.{numbers-fine, lent-not-fine}
 use Rattle.refusal_claims.specs.Numbers.{PathRefusal, Number, Shape, Backward, NoLine}
 use Rattle.refusal_claims.proofs.Examined.{Finds, agent-finds, numbers-find, lent-finds}
 use Rattle.refusal_claims.proofs.Path.{Seeks, seeks}

@@ -7,34 +7,34 @@ use mathlib.Core.List.{List, [], _∷_}
 use mathlib.Core.Option.{Option, none, some}
 use lib.Dec.{eqb}
 use lib.ListN.{length}
-use Rattle.numbers.specs.Time.{withSpan}
-use Rattle.numbers.specs.declared.time.Duration.{Duration}
-use Rattle.numbers.specs.declared.time.Span.{Span}
-use Rattle.numbers.specs.declared.time.Span.the-variants as S
-use Rattle.numbers.specs.declared.time.TimePoint.{TimePoint}
+use Rattle.times.specs.Time.{withSpan}
+use Rattle.times.specs.declared.time.Duration.{Duration}
+use Rattle.times.specs.declared.time.Span.{Span}
+use Rattle.times.specs.declared.time.Span.the-variants as S
+use Rattle.times.specs.declared.time.TimePoint.{TimePoint}
 use Rattle.shapes.specs.Leg.{placeOf}
 use Rattle.shapes.specs.declared.waypoint.Waypoint.{Waypoint}
-use Rattle.obstacles.specs.Obstacle.{Obstacle}
-use Rattle.waits.specs.declared.hint.WaitHint.{WaitHint}
-use Rattle.waits.specs.declared.hint.RankedHint.{RankedHint}
-use Rattle.chains.specs.Answer.{Chained, Way, NoWay}
-use Rattle.chains.specs.Answer as A
-use Rattle.chains.specs.Handed.{firstIndex}
-use Rattle.chains.specs.declared.trial.Trial.{Trial}
-use Rattle.chains.specs.declared.trial.Trial.the-variants as T
-use Rattle.choosing.specs.Roots.{goalContour, firstRoot}
-use Rattle.ways.specs.Tests.{straight}
-use Rattle.ways.specs.Travel.{hintWaypoint, reachedFrom, withReached}
-use Rattle.choosing.specs.declared.roots.Contour.{Contour}
-use Rattle.choosing.specs.declared.roots.Contour.the-variants as C
-use Rattle.ways.specs.declared.travel.Reached.{Reached}
-use Rattle.ways.specs.declared.travel.Reached.the-variants as W
-use Rattle.ways.specs.declared.trip.Trip.{Trip}
-use Rattle.paths.specs.Trying.{stopIn, toParent, startsAt, reaches, chainFrom}
-use Rattle.actions.specs.Built.{Built, Of, holdAfter, stopped, ended, inFront, andOn, built, hintsAt, unheld}
-use Rattle.arrival_paths.specs.Path.{Sought, Path, Missing, Refused, withPops, alongHints, taken, contoured, byHints, pathFor}
-use Rattle.actions.specs.declared.action.SafeAction.{SafeAction}
-use Rattle.actions.specs.declared.action.SafeAction.the-variants.{Move, Wait}
+use Rattle.table.specs.Obstacle.{Obstacle}
+use Rattle.hint_list.specs.declared.hint.WaitHint.{WaitHint}
+use Rattle.hint_list.specs.declared.hint.RankedHint.{RankedHint}
+use Rattle.path_search.specs.Answer.{Chained, Way, NoWay}
+use Rattle.path_search.specs.Answer as A
+use Rattle.path_search.specs.Handed.{firstIndex}
+use Rattle.path_search.specs.declared.trial.Trial.{Trial}
+use Rattle.path_search.specs.declared.trial.Trial.the-variants as T
+use Rattle.path_roots.specs.Roots.{goalContour, firstRoot}
+use Rattle.path_tests.specs.Tests.{straight}
+use Rattle.path_tests.specs.Travel.{hintWaypoint, reachedFrom, withReached}
+use Rattle.path_roots.specs.declared.roots.Contour.{Contour}
+use Rattle.path_roots.specs.declared.roots.Contour.the-variants as C
+use Rattle.path_tests.specs.declared.travel.Reached.{Reached}
+use Rattle.path_tests.specs.declared.travel.Reached.the-variants as W
+use Rattle.path_tests.specs.declared.trip.Trip.{Trip}
+use Rattle.path_chains.specs.Trying.{stopIn, toParent, startsAt, reaches, chainFrom}
+use Rattle.path_actions.specs.Built.{Built, Of, holdAfter, stopped, ended, inFront, andOn, built, hintsAt, unheld}
+use Rattle.one_path.specs.Path.{Sought, Path, Missing, Refused, withPops, alongHints, taken, contoured, byHints, pathFor}
+use Rattle.path_actions.specs.declared.action.SafeAction.{SafeAction}
+use Rattle.path_actions.specs.declared.action.SafeAction.the-variants.{Move, Wait}
 use Rattle.refusal_claims.specs.Numbers.{PathRefusal, Strayed, Spent}
 use Rattle.refusal_claims.proofs.Chain.{Searches, searches}
 use Rattle.refusal_claims.proofs.Ways.{Reaches, travels, Contours, contours, Tried, end-tried, goal-tried, start-tried}

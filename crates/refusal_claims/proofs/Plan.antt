@@ -5,39 +5,39 @@ use mathlib.Core.Path.{_≡_, refl, _∙_}
 use mathlib.Core.Bool.{Bool, true, false, cond}
 use mathlib.Core.List.{List, [], _∷_}
 use lib.ListN.{length}
-use Rattle.numbers.specs.declared.time.TimePoint.{TimePoint}
+use Rattle.times.specs.declared.time.TimePoint.{TimePoint}
 use Rattle.shapes.specs.Box.{boxOfLeg}
 use Rattle.shapes.specs.Leg.{isBrief}
-use Rattle.limits.specs.declared.domain.Examined.{Examined}
-use Rattle.limits.specs.declared.domain.Examined.the-variants as X
+use Rattle.domain.specs.declared.limits.Examined.{Examined}
+use Rattle.domain.specs.declared.limits.Examined.the-variants as X
 use Rattle.shapes.specs.declared.profile.CircularProfile.{CircularProfile}
 use Rattle.shapes.specs.declared.waypoint.Leg.{Leg}
-use Rattle.obstacles.specs.Examined.{agentExamined}
-use Rattle.obstacles.specs.Lent.{Lent, obstaclesOf}
-use Rattle.obstacles.specs.Obstacle.{Obstacle}
-use Rattle.obstacles.proofs.Accepted.{accepted}
-use Rattle.ranking.specs.Hints as R
-use Rattle.ranking.specs.Hints.{Ranked}
-use Rattle.waits.specs.declared.hint.RankedHint.{RankedHint}
+use Rattle.table.specs.Examined.{agentExamined}
+use Rattle.table.specs.Lent.{Lent, obstaclesOf}
+use Rattle.table.specs.Obstacle.{Obstacle}
+use Rattle.table.proofs.Accepted.{accepted}
+use Rattle.hint_ranking.specs.Hints as R
+use Rattle.hint_ranking.specs.Hints.{Ranked}
+use Rattle.hint_list.specs.declared.hint.RankedHint.{RankedHint}
 use Rattle.hints.specs.Contour.{scaleOf, rankedHints}
 use Rattle.hints.specs.declared.contour.Scale.{Scale}
 use Rattle.hints.specs.declared.contour.Scaling.{Scaling}
 use Rattle.hints.specs.declared.contour.Scaling.the-variants as L
 use Rattle.hints.proofs.Reaches.{Scaled, scale-given}
-use Rattle.arrivals.specs.Search as A
-use Rattle.search.specs.Asked.{askedArrivals}
-use Rattle.nearing.specs.Watched.{arrivalsAt}
-use Rattle.search_claims.specs.DemandThree.{Refusal, by-numbers, by-shape, by-creep, by-stuck}
-use Rattle.search_claims.proofs.DemandThree.{demand-three}
-use Rattle.ways.specs.declared.trip.Trip.{Trip}
-use Rattle.arrival_paths.specs.Path as P
-use Rattle.arrival_paths.specs.Path.{pathFor}
-use Rattle.asking.specs.Beside.{isBudget, withNumbers}
-use Rattle.plans.specs.Asked.{askedPlan}
-use Rattle.plans.specs.Plan.{Path, Paths, Of, first, sought, pathsFor, Plan, Planned, Refused, withScale, hinted, timed, planned, tripOf}
-use Rattle.plans.specs.Plan.{pathsPlanned, timesPlanned, hintsPlanned, longPlan, shortPlan, planOf}
-use Rattle.asking.proofs.Fine.{numbers-fine}
-use Rattle.path_claims.proofs.Calls.{hints-alone, arrivals-alone}
+use Rattle.arrival_search.specs.Search as A
+use Rattle.arrival_times.specs.Asked.{askedArrivals}
+use Rattle.arrival_legs.specs.Watched.{arrivalsAt}
+use Rattle.arrival_claims.specs.DemandThree.{Refusal, by-numbers, by-shape, by-creep, by-stuck}
+use Rattle.arrival_claims.proofs.DemandThree.{demand-three}
+use Rattle.path_tests.specs.declared.trip.Trip.{Trip}
+use Rattle.one_path.specs.Path as P
+use Rattle.one_path.specs.Path.{pathFor}
+use Rattle.domain.specs.Beside.{isBudget, withNumbers}
+use Rattle.plan_model.specs.Asked.{tablePlan, askedPlan}
+use Rattle.plan_model.specs.Plan.{Path, Paths, Of, first, sought, pathsFor, Plan, Planned, Refused, withScale, hinted, timed, planned, tripOf}
+use Rattle.plan_model.specs.Plan.{pathsPlanned, timesPlanned, hintsPlanned, longPlan, shortPlan, planOf}
+use Rattle.domain.proofs.Fine.{numbers-fine}
+use Rattle.plan_claims.proofs.Calls.{hints-alone, arrivals-alone}
 use Rattle.refusal_claims.specs.Numbers.{HintsRefusal, PathRefusal, PlanRefusal}
 use Rattle.refusal_claims.specs.Numbers.{Number, Shape, Backward, NoLine, Creep, Apart, Strayed, Stuck, Full, Spent}
 use Rattle.refusal_claims.proofs.Examined.{Finds, agent-finds, numbers-find}
@@ -114,7 +114,7 @@ module _ (p : CircularProfile) (agent : Leg) (budget : ℕ) (lent : Lent) (fine 
       by (Paths.Refused n) h = h
 
   -- The search for arrival times is the call's, which ends and is refused by 1, 2, 5 or 8 (RULES D3, 4.8).
-  times-plan : (scale : Scale) (hints : List RankedHint) → Plans (timesPlanned (tripOf p agent scale) os os hints budget)
+  times-plan : (scale : Scale) (hints : List RankedHint) → Plans (timesPlanned (tripOf p agent scale) os hints budget)
   unfolding timesPlanned
   times-plan scale hints = by (arrivalsAt p (agent .end) os) (arrivals-alone p agent lent fine)
     where
@@ -127,14 +127,14 @@ module _ (p : CircularProfile) (agent : Leg) (budget : ℕ) (lent : Lent) (fine 
       by (A.Refused n) e = as-arrivals (demand-three p (agent .end) lent .refusals e)
       by A.Unfinished e = absurd (demand-three p (agent .end) lent .finished e)
 
-  hints-plan : isBrief agent ≡ false → (scale : Scale) → Plans (hintsPlanned (tripOf p agent scale) os os budget)
+  hints-plan : isBrief agent ≡ false → (scale : Scale) → Plans (hintsPlanned (tripOf p agent scale) os budget)
   unfolding hintsPlanned
   hints-plan lasts scale = by own refl
     where
       own : Ranked
       own = rankedHints p agent (boxOfLeg (p .footprint) agent) os
 
-      by : (given : Ranked) → own ≡ given → Plans (hinted given (λ hints. timesPlanned (tripOf p agent scale) os os hints budget))
+      by : (given : Ranked) → own ≡ given → Plans (hinted given (λ hints. timesPlanned (tripOf p agent scale) os hints budget))
       by (R.Of hints) e = times-plan scale hints
       by (R.Refused n) e = as-hints (hints-refused p agent lent (hints-alone p agent lent fine lasts ∙ e))
 
@@ -142,7 +142,7 @@ module _ (p : CircularProfile) (agent : Leg) (budget : ℕ) (lent : Lent) (fine 
   unfolding longPlan
   long-plan lasts = by (scaleOf agent) (scale-given agent (accepted p agent lent fine .own))
     where
-      by : (s : Scaling) → Scaled s → Plans (withScale s (λ scale. hintsPlanned (tripOf p agent scale) os os budget))
+      by : (s : Scaling) → Scaled s → Plans (withScale s (λ scale. hintsPlanned (tripOf p agent scale) os budget))
       by (L.By scale) h = hints-plan lasts scale
       by (L.Refused n) h = rw h NoLine
 
@@ -157,7 +157,7 @@ module _ (p : CircularProfile) (agent : Leg) (budget : ℕ) (lent : Lent) (fine 
 -- ---- The call.
 
 asked-plans : (p : CircularProfile) (agent : Leg) (budget : ℕ) (lent : Lent) → Plans (askedPlan p agent budget lent)
-unfolding askedPlan
+unfolding askedPlan tablePlan agentExamined
 asked-plans p agent budget lent =
     by input refl
     (numbers-find PlanRefusal Number Shape (isBudget budget) (agentExamined p agent lent)

@@ -10,10 +10,10 @@ use lib.ListN.{length}
 use lib.Ieee.{Float}
 use Rattle.shapes.specs.declared.profile.CircularProfile.{CircularProfile}
 use Rattle.shapes.specs.declared.waypoint.Leg.{Leg}
-use Rattle.obstacles.specs.Lent.{Lent}
-use Rattle.plans.specs.Asked.{askedPlan}
-use Rattle.plans.specs.Laid.{bothHold, planNumber}
-use Rattle.plans.specs.Plan.{Plan, Planned, Refused, allActions}
+use Rattle.table.specs.Lent.{Lent}
+use Rattle.plan_model.specs.Asked.{askedPlan}
+use Rattle.plan_model.specs.Laid.{bothHold, planNumber}
+use Rattle.plan_model.specs.Plan.{Plan, Planned, Refused, allActions}
 use Rattle.refusal_claims.specs.Numbers.{PlanRefusal}
 use Rattle.refusal_claims.specs.Refusals.{OfLeg, OfObstacle, OfLegs, Fitting, OfAgent}
 use Rattle.refusal_claims.proofs.Hints.{hints-refused}

@@ -3,19 +3,19 @@
 use Prim.Native.Nat.{ℕ}
 use mathlib.Core.Path.{_≡_, refl, ap, _∙_}
 use mathlib.Core.Logic.{⊎-elim}
-use mathlib.Core.Bool.{Bool, true, false, not, _&&_, cond, true≢false}
+use mathlib.Core.Bool.{Bool, true, false, not, _&&_}
 use mathlib.Core.List.{List, [], _∷_, List·Memᴰ, List·Memᴰ·not-nil, List·Memᴰ·cases-cons}
 use lib.Signed.{ltZ, _≤ℤ_, ltZ-no, clashℤ}
-use Rattle.lists.specs.Listed.{every}
+use Rattle.lent.specs.Listed.{every}
 use Rattle.floats.proofs.Tests.{passed, failed}
-use Rattle.numbers.proofs.Integers.{below→at-most}
-use Rattle.numbers.proofs.Order.{chosen-has}
-use Rattle.numbers.proofs.Exact.{both}
+use Rattle.times.proofs.Integers.{below→at-most}
+use Rattle.times.proofs.Order.{chosen-has}
+use Rattle.times.proofs.Exact.{both}
 use Rattle.shapes.specs.Box.{boxOfLeg}
-use Rattle.limits.specs.Domain.{isLimit, isWaypoint, isLeg, isProfile}
+use Rattle.domain.specs.Domain.{isLimit, isWaypoint, isLeg, isProfile}
 use Rattle.shapes.specs.Leg.{isBackward, isRising}
-use Rattle.limits.specs.declared.domain.Examined.{Examined}
-use Rattle.limits.specs.declared.domain.Examined.the-variants as X
+use Rattle.domain.specs.declared.limits.Examined.{Examined}
+use Rattle.domain.specs.declared.limits.Examined.the-variants as X
 use Rattle.shapes.specs.declared.profile.CircularProfile.{CircularProfile}
 use Rattle.shapes.specs.declared.waypoint.Leg.{Leg}
 use Rattle.proximity.specs.Proximity.{proximityOf}
@@ -25,10 +25,11 @@ use Rattle.proximity.proofs.Holding.{starts, ends}
 use Rattle.proximity.proofs.OnDomain.{proximity-in-range}
 use Rattle.conflicts.specs.declared.conflict.Verdict.the-variants as J
 use Rattle.conflicts.proofs.Conflicts.{refused-by-proximity}
-use Rattle.obstacles.specs.Examined.{isShaped, isAllowed, areAllowed, agentExamined}
-use Rattle.obstacles.specs.Lent.{Lent, obstaclesOf}
-use Rattle.obstacles.specs.Obstacle.{legsOf}
-use Rattle.obstacles.proofs.Accepted.{isDriven, isFit, accepted}
+use Rattle.table.specs.Examined.{isLaid, isAllowed, areAllowed, agentExamined}
+use Rattle.table.specs.Lent.{Lent, obstaclesOf}
+use Rattle.table.specs.Obstacle.{legsOf}
+use Rattle.table.proofs.Accepted.{isDriven, isFit, accepted}
+use Rattle.table.proofs.Shaped.{fine-fits}
 use Rattle.segments.specs.Asked.{askedSegment}
 use Rattle.segments.specs.Segment.{isDuring, segmentOf}
 use Rattle.segments.proofs.Safe.{refused}
@@ -60,25 +61,12 @@ each test (y ∷ ys) e x m =
     let here = both (test y) (every test ys) e in
     ⊎-elim (λ (s : x ≡ y). ap test s ∙ here .0) (each test ys (here .1) x) (List·Memᴰ·cases-cons m)
 
-allowed : (p : CircularProfile) (agent : Leg) (lent : Lent) → agentExamined p agent lent ≡ X.Fine → areAllowed lent ≡ true
-unfolding agentExamined
-allowed p agent lent = by (isShaped lent) (isProfile p && (isLeg agent && areAllowed lent)) refl
-  where
-    by : (shaped numbers : Bool) → (isProfile p && (isLeg agent && areAllowed lent)) ≡ numbers →
-        cond shaped (cond numbers (cond (isBackward agent) (X.Refused 3) X.Fine) (X.Refused 1)) (X.Refused 2) ≡ X.Fine →
-        areAllowed lent ≡ true
-    by true true numbers e =
-        let rest = both (isProfile p) (isLeg agent && areAllowed lent) numbers .1 in
-        both (isLeg agent) (areAllowed lent) rest .1
-    by true false numbers e = absurd (true≢false (cc e))
-    by false found numbers e = absurd (true≢false (cc e))
-
 -- ---- The call.
 
 module _ (p : CircularProfile) (agent : Leg) (lent : Lent) {n : ℕ} where
   creeps : agentExamined p agent lent ≡ X.Fine →
       segmentOf agent (boxOfLeg (p .footprint) agent) (obstaclesOf lent) ≡ J.Refused n → SegmentRefusal n
-  unfolding areAllowed isAllowed
+  unfolding agentExamined areAllowed isAllowed
   creeps fine e =
       let os = obstaclesOf lent in
       let bounds = boxOfLeg (p .footprint) agent in
@@ -90,7 +78,7 @@ module _ (p : CircularProfile) (agent : Leg) (lent : Lent) {n : ℕ} where
       let fit = both (isProfile (o .profile)) (every isDriven legs) (each isFit os (a .others) o (f .met .obstacle)) in
       let driven = both (isLeg leg) (isRising leg) (each isDriven legs (fit .1) leg (f .met .legOf)) in
       let numbers = both (isProfile (o .profile)) (isLimit (o .limit) && every isWaypoint (o .waypoints))
-      (each isAllowed os (allowed p agent lent fine) o (f .met .obstacle)) in
+      (each isAllowed os (fine-fits (isLaid lent) p agent os fine .allowed) o (f .met .obstacle)) in
       let limited = both (isLimit (o .limit)) (every isWaypoint (o .waypoints)) (numbers .1) .0 in
       let near : proximityOf (o .limit) agent leg ≡ P.Refused n =
       refused-by-proximity agent bounds leg (boxOfLeg (o .profile .footprint) leg) (o .limit) (f .verdict) in

@@ -8,18 +8,18 @@ use lib.Dec.{eqb}
 use lib.IntN.{ℤ}
 use lib.ListN.{length}
 use lib.Ieee.{Float}
-use Rattle.numbers.specs.declared.time.TimePoint.{TimePoint}
-use Rattle.numbers.proofs.Exact.{both}
-use Rattle.limits.specs.Asked.{askedBox}
+use Rattle.times.specs.declared.time.TimePoint.{TimePoint}
+use Rattle.times.proofs.Exact.{both}
+use Rattle.domain.specs.Asked.{askedBox}
 use Rattle.shapes.specs.Box.{boxOfLeg}
-use Rattle.limits.specs.Domain.{isTime, isLeg, isProfile}
+use Rattle.domain.specs.Domain.{isTime, isLeg, isProfile}
 use Rattle.shapes.specs.Leg.{isBackward}
 use Rattle.shapes.specs.declared.bounding_box.BoundingBox.{BoundingBox}
-use Rattle.limits.specs.declared.calls.Boxed.{Boxed}
-use Rattle.limits.specs.declared.calls.Boxed.the-variants as B
+use Rattle.domain.specs.declared.calls.Boxed.{Boxed}
+use Rattle.domain.specs.declared.calls.Boxed.the-variants as B
 use Rattle.shapes.specs.declared.profile.CircularProfile.{CircularProfile}
 use Rattle.shapes.specs.declared.waypoint.Leg.{Leg}
-use Rattle.limits.proofs.Limits.{time-exact}
+use Rattle.domain.proofs.Within.{time-exact}
 use Rattle.proximity.specs.Asked.{askedPosition}
 use Rattle.motions.specs.Motion.{motionAt}
 use Rattle.proximity.specs.declared.calls.Whereabouts.{Whereabouts}
@@ -28,10 +28,11 @@ use Rattle.motions.specs.declared.motion.Motion.{Motion}
 use Rattle.proximity.proofs.Arrivals.{times-given}
 use Rattle.proximity.proofs.Moving.{Motioned, there, outside, strayed, motion, never-strays}
 use Rattle.proximity.proofs.Placed.{accepted}
-use Rattle.obstacles.specs.Examined.{isShaped, areAllowed}
-use Rattle.examining.specs.Asked.{alone, askedHull}
-use Rattle.examining.specs.declared.calls.Hull.{Hull}
-use Rattle.examining.specs.declared.calls.Hull.the-variants as H
+use Rattle.table.specs.Examined.{isLaid, isShaped, areAllowed}
+use Rattle.table.specs.Lent.{obstaclesOf}
+use Rattle.table_checks.specs.Asked.{alone, askedHull}
+use Rattle.table_checks.specs.declared.calls.Hull.{Hull}
+use Rattle.table_checks.specs.declared.calls.Hull.the-variants as H
 use Rattle.refusal_claims.specs.Numbers.{LegRefusal, HullRefusal, Number, Shape, Backward}
 
 -- ---- One leg.
@@ -91,7 +92,10 @@ Hulls (H.Refused n) = HullRefusal n
 module _ (p : CircularProfile) (times : List ℤ) (xs ys : List Float) where
   hulls : Hulls (askedHull p times xs ys)
   unfolding askedHull
-  hulls = by (isShaped (alone p times xs ys)) (areAllowed (alone p times xs ys)) (eqb (length times) 0) _
+  hulls =
+      let own = alone p times xs ys in
+      let os = obstaclesOf own in
+      by (isLaid own && isShaped os) (areAllowed os) (eqb (length times) 0) _
     where
       by : (shaped allowed none : Bool) (b : BoundingBox) →
           Hulls (cond shaped (cond allowed (cond none H.Missing (H.Of b)) (H.Refused 1)) (H.Refused 2))

@@ -8,12 +8,12 @@ use lib.Ieee
 use lib.Ieee.{Float, binary64}
 use lib.Signed.{ltZ}
 use Rattle.root.specs.Root.{withRoot}
-use Rattle.numbers.specs.Time.{spanBetween, instantAfterSeconds, withSpan, withInstant}
-use Rattle.numbers.specs.declared.time.Instant.{Instant}
-use Rattle.numbers.specs.declared.time.Instant.the-variants as I
-use Rattle.numbers.specs.declared.time.Span.{Span}
-use Rattle.numbers.specs.declared.time.Span.the-variants as S
-use Rattle.numbers.specs.declared.time.TimePoint.{TimePoint}
+use Rattle.times.specs.Time.{spanBetween, instantAfterSeconds, withSpan, withInstant}
+use Rattle.times.specs.declared.time.Instant.{Instant}
+use Rattle.times.specs.declared.time.Instant.the-variants as I
+use Rattle.times.specs.declared.time.Span.{Span}
+use Rattle.times.specs.declared.time.Span.the-variants as S
+use Rattle.times.specs.declared.time.TimePoint.{TimePoint}
 use Rattle.root.specs.declared.nearest.Root.{Root}
 use Rattle.root.specs.declared.nearest.Root.the-variants as R
 use Rattle.shapes.specs.Box.{boxOfLeg}
@@ -29,21 +29,21 @@ use Rattle.conflicts.specs.declared.conflict.Verdict.{Verdict}
 use Rattle.conflicts.specs.declared.conflict.Verdict.the-variants as J
 use Rattle.conflicts.proofs.Conflicts.{refused-by-proximity}
 use Rattle.courses.specs.Norm.{normOf}
-use Rattle.obstacles.specs.Obstacle.{Obstacle}
+use Rattle.table.specs.Obstacle.{Obstacle}
 use Rattle.segments.specs.Segment.{segmentOf}
 use Rattle.segments.proofs.Safe.{refused}
-use Rattle.chains.specs.declared.trial.Trial.{Trial}
-use Rattle.chains.specs.declared.trial.Trial.the-variants as T
-use Rattle.choosing.specs.Roots as Roots
-use Rattle.choosing.specs.Roots.{lateness, goalContour}
-use Rattle.ways.specs.Tests.{toEnd, toGoal, waitsAt, fromStart, staysTill, straight}
-use Rattle.ways.specs.Travel.{waypointAt, reachedFrom, withReached}
-use Rattle.ways.specs.Way.{trialOf, wayOf, next, bothWays}
-use Rattle.choosing.specs.declared.roots.Contour.{Contour}
-use Rattle.choosing.specs.declared.roots.Contour.the-variants as C
-use Rattle.ways.specs.declared.travel.Reached.{Reached}
-use Rattle.ways.specs.declared.travel.Reached.the-variants as W
-use Rattle.ways.specs.declared.trip.Trip.{Trip}
+use Rattle.path_search.specs.declared.trial.Trial.{Trial}
+use Rattle.path_search.specs.declared.trial.Trial.the-variants as T
+use Rattle.path_roots.specs.Roots as Roots
+use Rattle.path_roots.specs.Roots.{lateness, goalContour}
+use Rattle.path_tests.specs.Tests.{toEnd, toGoal, waitsAt, fromStart, staysTill, straight}
+use Rattle.path_tests.specs.Travel.{waypointAt, reachedFrom, withReached}
+use Rattle.path_tests.specs.Way.{trialOf, wayOf, next, bothWays}
+use Rattle.path_roots.specs.declared.roots.Contour.{Contour}
+use Rattle.path_roots.specs.declared.roots.Contour.the-variants as C
+use Rattle.path_tests.specs.declared.travel.Reached.{Reached}
+use Rattle.path_tests.specs.declared.travel.Reached.the-variants as W
+use Rattle.path_tests.specs.declared.trip.Trip.{Trip}
 use Rattle.refusal_claims.specs.Numbers.{PathRefusal, Number, Creep, Apart, Strayed}
 use Rattle.refusal_claims.proofs.Chain.{Tests}
 

@@ -10,9 +10,9 @@ use lib.ListN.{length}
 use lib.IntN.{ℤ}
 use lib.Ieee.{Float}
 use Rattle.refusals.specs.Names.{LATE}
-use Rattle.numbers.specs.declared.time.TimePoint.{TimePoint}
-use Rattle.limits.specs.Asked.{askedBox}
-use Rattle.limits.specs.declared.calls.Boxed.the-variants as B
+use Rattle.times.specs.declared.time.TimePoint.{TimePoint}
+use Rattle.domain.specs.Asked.{askedBox}
+use Rattle.domain.specs.declared.calls.Boxed.the-variants as B
 use Rattle.shapes.specs.declared.profile.CircularProfile.{CircularProfile}
 use Rattle.shapes.specs.declared.waypoint.Leg.{Leg}
 use Rattle.proximity.specs.Asked.{askedPosition, askedProximity}
@@ -20,17 +20,17 @@ use Rattle.proximity.specs.declared.calls.Whereabouts.the-variants as W
 use Rattle.proximity.specs.declared.detect.Proximity.the-variants as P
 use Rattle.conflicts.specs.Asked.{askedConflict}
 use Rattle.conflicts.specs.declared.conflict.Verdict.the-variants as J
-use Rattle.obstacles.specs.Lent.{Lent}
-use Rattle.examining.specs.Asked.{askedHull}
-use Rattle.examining.specs.declared.calls.Hull.the-variants as H
+use Rattle.table.specs.Lent.{Lent}
+use Rattle.table_checks.specs.Asked.{askedHull}
+use Rattle.table_checks.specs.declared.calls.Hull.the-variants as H
 use Rattle.segments.specs.Asked.{askedSegment}
-use Rattle.ranking.specs.Hints as R
+use Rattle.hint_ranking.specs.Hints as R
 use Rattle.hints.specs.Asked.{askedHints}
-use Rattle.arrival_paths.specs.Path as S
-use Rattle.arrival_paths.specs.Asked.{askedPath}
-use Rattle.plans.specs.Asked.{askedPlan}
-use Rattle.plans.specs.Laid.{bothHold, planNumber}
-use Rattle.plans.specs.Plan.{Path, Plan, Planned, Refused, allActions}
+use Rattle.one_path.specs.Path as S
+use Rattle.one_path.specs.Asked.{askedPath}
+use Rattle.plan_model.specs.Asked.{askedPlan}
+use Rattle.plan_model.specs.Laid.{bothHold, planNumber}
+use Rattle.plan_model.specs.Plan.{Path, Plan, Planned, Refused, allActions}
 use Rattle.refusal_claims.specs.Numbers.{LegRefusal, HullRefusal, LegsRefusal, SegmentRefusal}
 use Rattle.refusal_claims.specs.Numbers.{HintsRefusal, PathRefusal, PlanRefusal}
 

@@ -7,9 +7,9 @@ use lib.Dec.{eqb}
 use lib.ListN.{length, getD, take, drop}
 use lib.Ieee
 use lib.Ieee.{binary64}
-use Rattle.lists.specs.Outcome.{Outcome, Gives, numberOf, roomOf}
-use Rattle.patterns.specs.Word.{signedOf}
-use Rattle.numbers.specs.Time.{spanBetween, instantAfter, secondsOf, spanOfSeconds, instantOfSeconds, spanOutcome, instantOutcome}
+use Rattle.lent.specs.Outcome.{Outcome, Gives, numberOf, roomOf}
+use Rattle.number_words.specs.Word.{signedOf}
+use Rattle.times.specs.Time.{spanBetween, instantAfter, secondsOf, spanOfSeconds, instantOfSeconds, spanOutcome, instantOutcome}
 use Rattle.replay.specs.Line.{lineOf}
 use Rattle.replay.specs.declared.calls.Verdict.{Verdict}
 use Rattle.replay.specs.declared.calls.Verdict.the-variants.{AsListed, Differs, Malformed}

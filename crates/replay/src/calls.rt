@@ -2,10 +2,10 @@
 use crate::list;
 use crate::list::Answer;
 use crate::list::Line;
-use number_exports::times;
-use patterns::word;
+use number_exports::time_calls;
+use number_words::word;
 ghost use mathlib.Core.Path.{_≡_};
-ghost use Rattle.lists.specs.Outcome.{Handed};
+ghost use Rattle.lent.specs.Outcome.{Handed};
 ghost use Rattle.replay.specs.Listed.{outcomeOf, asListed, verdictOf};
 
 // The first line that is not as listed, or how many lines there are.
@@ -21,16 +21,20 @@ fn call(a: Answer, out: &mut [u64]) -> u64
 {
     let which = a.call;
     match which {
-        1 => times::igelbert_span_between(word::signed_of(a.first), word::signed_of(a.second), out),
-        2 => times::igelbert_instant_after(
+        1 => time_calls::igelbert_span_between(
             word::signed_of(a.first),
             word::signed_of(a.second),
             out,
         ),
-        3 => times::igelbert_seconds_of_instant(word::signed_of(a.first), out),
-        4 => times::igelbert_seconds_of_span(word::signed_of(a.first), out),
-        5 => times::igelbert_instant_of_seconds(word::double_of(a.first), out),
-        _ => times::igelbert_span_of_seconds(word::double_of(a.first), out),
+        2 => time_calls::igelbert_instant_after(
+            word::signed_of(a.first),
+            word::signed_of(a.second),
+            out,
+        ),
+        3 => time_calls::igelbert_seconds_of_instant(word::signed_of(a.first), out),
+        4 => time_calls::igelbert_seconds_of_span(word::signed_of(a.first), out),
+        5 => time_calls::igelbert_instant_of_seconds(word::double_of(a.first), out),
+        _ => time_calls::igelbert_span_of_seconds(word::double_of(a.first), out),
     }
 }
 

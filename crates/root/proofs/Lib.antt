@@ -1,4 +1,7 @@
 mod WholeRoot
+mod NearestWhole
+mod Trials
+mod Cut
 pub mod Units
 pub mod Neighbours
 pub mod Only

@@ -8,7 +8,7 @@ use lib.Dec.{T}
 use lib.Ieee.{Float, nan, inf, fin, binary64, size, fits, ofBits, toBits}
 use lib.Ieee.Positive.{num, den, positive}
 use Rattle.refusals.specs.Names.{NUMBER}
-use Rattle.lists.specs.Outcome.{Outcome, Gives, Refuses}
+use Rattle.lent.specs.Outcome.{Outcome, Gives, Refuses}
 use Rattle.root.specs.Digits.{square, rootPattern}
 use Rattle.root.specs.declared.nearest.Root.{Root}
 use Rattle.root.specs.declared.nearest.Root.the-variants.{Of, Refused}

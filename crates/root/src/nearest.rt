@@ -1,6 +1,9 @@
-// The square root of a double, rounded to the nearest (docs/RULES.md, 6.5): worked out from its bits, one binary digit a turn.
+// The square root of a double, rounded to the nearest (docs/RULES.md, 6.5): worked out from its bits, by a guess that is tried, and
+// where that fails one binary digit a turn.
+use crate::guess;
+use crate::trial;
 ghost use mathlib.Core.Path.{_≡_};
-ghost use Prim.Native.Nat.{_*_, _^_, _≤_, _<_};
+ghost use Prim.Native.Nat.{_+_, _*_, _/_, _^_, _≤_, _<_};
 ghost use lib.Ieee.{binary64, ofBits};
 ghost use Rattle.root.specs.Digits.{wholeRoot, Spells, rootPattern};
 ghost use Rattle.root.specs.Root.{leastUnits, IsRoot, rootOf};
@@ -13,6 +16,9 @@ pub enum Root {
 
 // 2^52, the first of the 53 digits that a double keeps.
 const FIRST_DIGIT: u64 = 0x10_0000_0000_0000;
+
+// The bits of 1/2: with the digits m added, of which the first adds one to the exponent, they are those of m / 2^52.
+const HALF: u64 = 0x3fe0_0000_0000_0000;
 
 // The bits of infinity, above which there are NaNs and whatever has its sign set.
 const INFINITY: u64 = 0x7ff0_0000_0000_0000;
@@ -79,6 +85,18 @@ fn digits_of(b: u64) -> Digits
     }
 }
 
+// The 53 digits of the root of a * 2^52, rounded to the nearest, with g for a guess at them.
+fn root_digits(a: u64, g: u64) -> u64
+    requires { ⌜ (a < 2 ^ 54) × (g < 2 ^ 53) ⌝ }
+    ensures { λ r. ⌜ r ≡ (wholeRoot 54 (a * 2 ^ 54) + 1) / 2 ⌝ }
+{
+    let t = trial::nearest_to(a, g);
+    if t == 0 {
+        return (whole_root(a) + 1) / 2;
+    }
+    t
+}
+
 // The bits of the root, from the bits of a finite double above zero.
 fn root_bits(b: u64) -> u64
     requires { ⌜ (0 < b) × (b < 0x7ff0_0000_0000_0000) ⌝ }
@@ -91,7 +109,8 @@ fn root_bits(b: u64) -> u64
     if j % 2 == 1 {
         a = m * 2;
     }
-    (j / 2 + 485) * FIRST_DIGIT + (whole_root(a) + 1) / 2
+    let g = guess::digits(HALF + m + j % 2 * FIRST_DIGIT);
+    (j / 2 + 485) * FIRST_DIGIT + root_digits(a, g)
 }
 
 // The root of x. A zero is its own; NaN, an infinity and what is below zero are refused.

@@ -6,14 +6,14 @@ use mathlib.Core.List.{List, [], _∷_}
 use borrow.Author.Tests.{not-true}
 use lib.Signed.{ltZ}
 use lib.Ieee.{Float}
-use Rattle.numbers.proofs.Exact.{both}
+use Rattle.times.proofs.Exact.{both}
 use Rattle.shapes.specs.Box.{boxOfLeg, overlap}
 use Rattle.shapes.specs.declared.bounding_box.BoundingBox.{BoundingBox}
 use Rattle.shapes.specs.declared.waypoint.Leg.{Leg}
 use Rattle.conflicts.specs.Conflict.{conflictOf}
 use Rattle.conflicts.specs.declared.conflict.Verdict.{Verdict}
 use Rattle.conflicts.specs.declared.conflict.Verdict.the-variants.{Clear, Conflict, Refused}
-use Rattle.obstacles.specs.Obstacle.{Obstacle, legsOf}
+use Rattle.table.specs.Obstacle.{Obstacle, legsOf}
 use Rattle.segments.specs.Segment.{isDuring, legVerdict, orElse, firstOf, obstacleVerdict, segmentOf}
 use Rattle.segments.specs.Early.{Turn, Goes, turnBy, andThen, turns}
 use Rattle.segments.specs.Early.{iterRange, legTurn, obstacleTurn, returned, segmentAsWritten}

@@ -13,7 +13,7 @@ use Rattle.shapes.specs.declared.waypoint.Leg.{Leg}
 use Rattle.conflicts.specs.Conflict.{conflictOf}
 use Rattle.conflicts.specs.declared.conflict.Verdict.{Verdict}
 use Rattle.conflicts.specs.declared.conflict.Verdict.the-variants.{Clear, Conflict, Refused}
-use Rattle.obstacles.specs.Obstacle.{Obstacle, legsOf}
+use Rattle.table.specs.Obstacle.{Obstacle, legsOf}
 use Rattle.segments.specs.Segment.{isDuring, legVerdict, orElse, firstOf, obstacleVerdict, segmentOf}
 
 -- A walk is clear exactly where every answer is,

@@ -1,14 +1,14 @@
 -- What the call for a segment answers: the table and the agent are examined first (RULES 5.1 to 5.4).
 -- Assumes nothing.
 use Rattle.shapes.specs.Box.{boxOfLeg}
-use Rattle.limits.specs.declared.domain.Examined.{Examined}
-use Rattle.limits.specs.declared.domain.Examined.the-variants as X
+use Rattle.domain.specs.declared.limits.Examined.{Examined}
+use Rattle.domain.specs.declared.limits.Examined.the-variants as X
 use Rattle.shapes.specs.declared.profile.CircularProfile.{CircularProfile}
 use Rattle.shapes.specs.declared.waypoint.Leg.{Leg}
 use Rattle.conflicts.specs.declared.conflict.Verdict.{Verdict}
 use Rattle.conflicts.specs.declared.conflict.Verdict.the-variants as W
-use Rattle.obstacles.specs.Lent.{Lent, obstaclesOf}
-use Rattle.obstacles.specs.Examined.{agentExamined}
+use Rattle.table.specs.Lent.{Lent, obstaclesOf}
+use Rattle.table.specs.Examined.{agentExamined}
 use Rattle.segments.specs.Segment.{segmentOf}
 
 -- The agent's leg in the box of its own footprint, among the obstacles that the lists stand for.

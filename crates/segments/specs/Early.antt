@@ -10,7 +10,7 @@ use Rattle.shapes.specs.declared.waypoint.Leg.{Leg}
 use Rattle.conflicts.specs.Conflict.{conflictOf}
 use Rattle.conflicts.specs.declared.conflict.Verdict.{Verdict}
 use Rattle.conflicts.specs.declared.conflict.Verdict.the-variants.{Clear, Conflict, Refused}
-use Rattle.obstacles.specs.Obstacle.{Obstacle, legsOf}
+use Rattle.table.specs.Obstacle.{Obstacle, legsOf}
 use Rattle.segments.specs.Segment.{isDuring}
 
 -- What a turn of a loop does: it goes on to the next, or it returns from the whole function.

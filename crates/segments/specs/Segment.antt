@@ -10,7 +10,7 @@ use Rattle.shapes.specs.declared.waypoint.Leg.{Leg}
 use Rattle.conflicts.specs.Conflict.{conflictOf}
 use Rattle.conflicts.specs.declared.conflict.Verdict.{Verdict}
 use Rattle.conflicts.specs.declared.conflict.Verdict.the-variants.{Clear, Conflict, Refused}
-use Rattle.obstacles.specs.Obstacle.{Obstacle, legsOf}
+use Rattle.table.specs.Obstacle.{Obstacle, legsOf}
 
 -- The legs that `iter_range` gives: those that end at or after the agent's start and start at or before its end (RULES 2.7).
 unfoldable pub isDuring : Leg → Leg → Bool

@@ -1,15 +1,14 @@
 // Whether a segment is safe: `is_safe_segment` of the Rust (docs/RULES.md, 9.7 to 9.11).
-use boxing::boxes;
 use conflicts::conflict;
 use conflicts::conflict::Verdict;
-use obstacles::table;
 use proximity::detect::Entry;
 use proximity::detect::Proximity;
 use shapes::bounding_box::BoundingBox;
 use shapes::waypoint::Leg;
+use table::reading;
+use table::walked;
 ghost use mathlib.Core.Path.{_≡_};
-ghost use Rattle.obstacles.specs.Lent.{lentOf, obstaclesWith};
-ghost use Rattle.obstacles.specs.Boxes.{boxIn};
+ghost use Rattle.table.specs.Table.{obstaclesIn};
 ghost use Rattle.conflicts.specs.Conflict.{judged};
 ghost use Rattle.segments.specs.Segment.{isDuring, legVerdict, segmentOf};
 
@@ -41,26 +40,21 @@ fn leg_proximity(agent: Leg, bounds: BoundingBox, footprint: f64, limit: f64, le
 pub fn is_safe_segment(
     agent: Leg,
     bounds: BoundingBox,
-    starts: &[usize],
-    numbers: &[f64],
-    times: &[i64],
-    xs: &[f64],
-    ys: &[f64],
-    boxes: &[f64],
+    marks: &[u64; 417],
+    places: &[f64; 800],
 ) -> Verdict
-    ensures { λ r. ⌜ r ≡ segmentOf agent bounds (obstaclesWith (lentOf (now (starts .entry)) (now (numbers .entry)) (now (times .entry)) (now (xs .entry)) (now (ys .entry))) (boxIn (now (boxes .entry)))) ⌝ }
+    ensures { λ r. ⌜ r ≡ segmentOf agent bounds (obstaclesIn (now (marks .entry)) (now (places .entry))) ⌝ }
 {
     let mut found = Verdict::Clear;
+    let count = reading::count_of(marks);
     let mut o = 0;
-    'walk: while o < starts.len() {
-        let profile = table::profile_at(numbers, o);
-        let limit = table::limit_at(numbers, o);
-        let around = boxes::box_at(boxes, o);
-        let end = table::start_of(starts, times.len(), o + 1);
-        let last = boxes::last_of(bounds, around, end);
-        let mut i = starts[o];
+    'walk: while o < count {
+        let profile = reading::profile_at(places, o);
+        let limit = reading::limit_at(places, o);
+        let last = walked::walked_to(bounds, marks, places, o);
+        let mut i = reading::first_of(marks, o);
         while i < last {
-            let leg = table::leg_at(times, xs, ys, i, i + 1);
+            let leg = reading::leg_at(marks, places, i);
             i += 1;
             let near = leg_proximity(agent, bounds, profile.footprint, limit, leg);
             if let Proximity::Refused(n) = near {

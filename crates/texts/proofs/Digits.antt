@@ -10,7 +10,7 @@ use native.Mathlib.Nat.{pow-suc}
 use native.Mathlib.Omega.{arith}
 use lib.Dec.{ltb}
 use lib.Pow.{pow-add}
-use Rattle.patterns.specs.Word.{signedOf}
+use Rattle.number_words.specs.Word.{signedOf}
 use Rattle.texts.specs.Numerals.{glyph, decimalBy, decimalOf, signedText, hexBy}
 
 pub glyph-digit : (d : ℕ) → d < 10 → glyph d ≡ 48 + d

@@ -4,7 +4,7 @@
 use mathlib.Core.Path.{_≡_, sym, _∙_}
 use mathlib.Core.List.{List}
 use Prim.Native.Nat.{ℕ}
-use Rattle.lists.specs.Outcome.{Outcome}
+use Rattle.lent.specs.Outcome.{Outcome}
 use Rattle.texts.specs.Room.{PutText, Tells, SettledText}
 use Rattle.texts.specs.declared.room.Told.{Told}
 

@@ -8,7 +8,7 @@ use native.Mathlib.Nat.{add-zero}
 use native.Mathlib.Omega.{arith}
 use lib.ListN.{length, set, length-set, length-append}
 use lib.Seq.{set-out}
-use Rattle.lists.proofs.Fours.{either}
+use Rattle.lent.proofs.Fours.{either}
 use Rattle.texts.specs.Room.{withBytes, reached, PutText}
 
 -- ---- The room.

@@ -11,7 +11,7 @@ use lib.Arith.{mod-mul}
 use lib.Dec.{T, ltb}
 use lib.IntN.{ℤ, pos, negsuc}
 use lib.ListN.{length, getD, drop, length-append, List·getD-append}
-use Rattle.lists.specs.Listed.{every}
+use Rattle.lent.specs.Listed.{every}
 use Rattle.texts.specs.Numerals.{glyph, decimalOf, signedText, hexBy, hexOf}
 use Rattle.texts.specs.Reading.{isDigit, countOf, readFrom, numeralRead}
 use Rattle.texts.proofs.Digits.{glyph-digit, glyph-letter, decimal-one, decimal-more}

@@ -11,13 +11,13 @@ use native.Mathlib.Omega.{arith}
 use lib.Dec.{ltb}
 use lib.ListN.{length, set, drop, replicate, length-replicate}
 use lib.Seq.{sets, sets-eq}
-use Rattle.lists.specs.Outcome.{Outcome, Gives, Refuses, Handed, numberOf, wiped}
-use Rattle.lists.proofs.Answer.{room-fits, room-short}
-use Rattle.lists.proofs.Filling.{wiped-after}
+use Rattle.lent.specs.Outcome.{Outcome, Gives, Refuses, Handed, numberOf, wiped}
+use Rattle.lent.proofs.Answer.{room-fits, room-short}
+use Rattle.lent.proofs.Filling.{wiped-after}
 use Rattle.texts.specs.Room.{withBytes, PutText, Tells, SettledText, toldOf, toldNumber}
 use Rattle.texts.specs.declared.room.Told.{Told}
 use Rattle.texts.specs.declared.room.Told.the-variants.{Text, Refused}
-use Rattle.lists.proofs.Fours.{either}
+use Rattle.lent.proofs.Fours.{either}
 use Rattle.texts.proofs.Putting.{reached-fits, reached-short, put-kept}
 
 pub told-fits : (text : List ℕ) (room : ℕ) → length text ≤ room → toldOf (Gives text) room ≡ Text (length text)

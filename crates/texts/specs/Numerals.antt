@@ -5,7 +5,7 @@ use mathlib.Core.Bool.{Bool, true, false, cond}
 use mathlib.Core.List.{List, [], _∷_, _++_}
 use lib.Dec.{ltb}
 use lib.IntN.{ℤ, pos, negsuc}
-use Rattle.patterns.specs.Word.{signedOf}
+use Rattle.number_words.specs.Word.{signedOf}
 
 -- The byte of a digit below 16: '0' to '9' are the bytes from 48 on, 'a' to 'f' those from 97 on.
 unfoldable pub glyph : ℕ → ℕ

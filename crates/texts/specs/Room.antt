@@ -7,7 +7,7 @@ use mathlib.Core.List.{List, [], _∷_}
 use lib.Dec.{leb, ltb}
 use lib.ListN.{length, set, replicate}
 use Rattle.refusals.specs.Names.{NO_ROOM}
-use Rattle.lists.specs.Outcome.{Outcome, Gives, Refuses, roomOf, wiped}
+use Rattle.lent.specs.Outcome.{Outcome, Gives, Refuses, roomOf, wiped}
 use Rattle.texts.specs.declared.room.Told.{Told}
 use Rattle.texts.specs.declared.room.Told.the-variants.{Text, Refused}
 

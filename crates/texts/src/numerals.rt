@@ -2,7 +2,7 @@
 use crate::room;
 ghost use mathlib.Core.Path.{_≡_};
 ghost use Prim.Native.Nat.{_<_};
-ghost use Rattle.patterns.specs.Word.{signedOf};
+ghost use Rattle.number_words.specs.Word.{signedOf};
 ghost use Rattle.texts.specs.Room.{PutText};
 ghost use Rattle.texts.specs.Numerals.{glyph, decimalOf, signedText, hexOf, countField, timeField, bitsField};
 

@@ -1,7 +1,7 @@
 // A text in a lent room: put piece by piece as far as the room reaches, then handed over (docs/RULES.md, 4.12, 4.14 and 4.15).
 ghost use mathlib.Core.Path.{_≡_};
 ghost use mathlib.Core.List.{_∷_, []};
-ghost use Rattle.lists.specs.Outcome.{Refuses, wiped};
+ghost use Rattle.lent.specs.Outcome.{Refuses, wiped};
 ghost use Rattle.texts.specs.Room.{PutText, SettledText, Tells, toldNumber};
 
 // How long a text is, or a refusal and its number.

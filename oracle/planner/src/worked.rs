@@ -1,5 +1,5 @@
 //! Examples of hints that were worked out on paper, as inputs and what each must give. The working
-//! stands above each example in `crates/worked/specs`, in the same order.
+//! stands above each example in `crates/hint_examples/specs`, in the same order.
 
 use crate::hint_walk::{Branch, LineEnd};
 use crate::marked::S;

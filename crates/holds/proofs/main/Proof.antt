@@ -5,7 +5,7 @@ use mathlib.Core.Path.{_≡_, refl}
 use native.Mathlib.Omega.{arith}
 use lib.ListN.{length}
 use borrow.Author.Needs.{needs}
-use Rattle.wording.proofs.Printed.{within, counted}
+use Rattle.reply_lines.proofs.Printed.{within, counted}
 use Rattle.hold_year.specs.Printed.{finishText}
 use Rattle.holds.proofs.main.Statement.{statement}
 use Rattle.holds.proofs.main.Tie as tie

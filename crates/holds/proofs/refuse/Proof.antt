@@ -1,8 +1,8 @@
 -- `holds::refuse` is safe and ends: the line that it writes stands in front of its room.
 -- Assumes nothing.
 use borrow.Author.Needs.{needs}
-use Rattle.wording.specs.Lines.{refusedLine}
-use Rattle.wording.proofs.Printed.{within, counted}
+use Rattle.reply_lines.specs.Lines.{refusedLine}
+use Rattle.reply_lines.proofs.Printed.{within, counted}
 use Rattle.holds.proofs.refuse.Statement.{statement}
 use Rattle.holds.proofs.refuse.Tie as tie
 

@@ -2,7 +2,7 @@
 -- Assumes nothing.
 use mathlib.Core.Path.{_≡_, sym, _∙_}
 use borrow.Author.Needs.{needs}
-use Rattle.limits.specs.declared.domain.Examined.the-variants.{Fine}
+use Rattle.domain.specs.declared.limits.Examined.the-variants.{Fine}
 use Rattle.conflicts.specs.Asked.{cartsExamined, askedConflict}
 use Rattle.conflicts.proofs.calls.conflict.Statement.{statement}
 use Rattle.conflicts.proofs.calls.conflict.Tie as tie

@@ -4,7 +4,7 @@ use mathlib.Core.Path.{_≡_}
 use mathlib.Core.Bool.{true}
 use borrow.Author.Needs.{needs}
 use Rattle.shapes.specs.Leg.{isRising}
-use Rattle.limits.specs.Domain.{isProfile}
+use Rattle.domain.specs.Domain.{isProfile}
 use Rattle.conflicts.specs.Asked.{cartsExamined}
 use Rattle.floats.proofs.Tests.{found-true, found-false}
 use Rattle.conflicts.proofs.calls.examine_carts.Statement.{statement}

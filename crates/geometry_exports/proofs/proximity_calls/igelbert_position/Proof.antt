@@ -2,9 +2,9 @@
 -- Assumes nothing.
 use mathlib.Core.Path.{_≡_}
 use borrow.Author.Needs.{needs}
-use Rattle.patterns.proofs.ReadBack.{read-back}
-use Rattle.taking.specs.Plain.{plainLeg}
-use Rattle.taking.proofs.ReadLegs.{leg-read}
+use Rattle.number_words.proofs.ReadBack.{read-back}
+use Rattle.shapes.specs.Plain.{plainLeg}
+use Rattle.shapes.proofs.ReadLegs.{leg-read}
 use Rattle.geometry_exports.proofs.proximity_calls.igelbert_position.Statement.{statement}
 use Rattle.geometry_exports.proofs.proximity_calls.igelbert_position.Tie as tie
 

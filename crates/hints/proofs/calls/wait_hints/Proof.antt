@@ -2,16 +2,33 @@
 -- Assumes nothing.
 use mathlib.Core.Path.{_≡_, sym, _∙_}
 use borrow.Author.Needs.{needs}
-use Rattle.limits.specs.declared.domain.Examined.the-variants.{Fine}
-use Rattle.obstacles.specs.Lent.{lentOf}
-use Rattle.obstacles.specs.Examined.{agentExamined}
-use Rattle.obstacles.proofs.Shaped.{fine-starts}
+use Rattle.table.specs.Lent.{Lent, lentOf}
+use Rattle.table.specs.Examined.{agentExamined}
+use Rattle.table_packing.proofs.Packed.{packed-examined, packed-fine}
 use Rattle.hints.specs.Asked.{askedHints}
 use Rattle.hints.proofs.calls.wait_hints.Statement.{statement}
 use Rattle.hints.proofs.calls.wait_hints.Tie as tie
 
+pack-requires : tie.Need-pack-requires
+pack-requires c κs = search needs
+
 examine-requires : tie.Need-examine-requires
 examine-requires c κs = search needs
+
+-- The lists that are lent.
+abbrev lent : (c : tie.After-pack) → Lent
+lent c =
+    let a = c .before .before .before .before .before .before .before .args in
+    lentOf (a .starts .now) (a .numbers .now) (a .times .now) (a .xs .now) (a .ys .now)
+
+-- What was found of the table is what there is to find of them.
+found : (c : tie.After-examine) →
+    let pack = c .before .before .before in
+    let a = pack .before .before .before .before .before .before .before .args in
+    c .examine .result ≡ agentExamined (a .p) (a .agent) (lent pack)
+found c =
+    let pack = c .before .before .before in
+    c .examine .ensures ∙ packed-examined (lent pack) _ _ _ _ _ (pack .pack .ensures)
 
 enum-known-input : tie.Need-enum-known-input
 enum-known-input c = search needs
@@ -28,44 +45,48 @@ is-brief-requires c κs = search needs
 refuse-requires-2 : tie.Need-refuse-requires-2
 refuse-requires-2 c κs = search needs
 
-fine : (c : tie.After-enum-told) →
-    let a = c .before .before .before .before .before .before .before .args in
-    agentExamined
-    (a .p)
-    (a .agent)
-    (lentOf (a .starts .now) (a .numbers .now) (a .times .now) (a .xs .now) (a .ys .now)) ≡
-    Fine
-fine c = sym (c .before .before .examine .ensures) ∙ c .enum-told .given .1
-
 returns : tie.Need-returns
 unfolding askedHints
 returns c =
     let brief = c .before .before .before in
-    rw (fine (brief .before), sym (brief .is-brief .ensures) ∙ c .before .before .if1 .taken) (c .refuse2 .ensures)
+    let told = brief .before in
+    let fine = sym (found (told .before .before)) ∙ told .enum-told .given .1 in
+    rw (fine, sym (brief .is-brief .ensures) ∙ c .before .before .if1 .taken) (c .refuse2 .ensures)
 
-among-requires : tie.Need-among-requires
-among-requires c κs =
-    let told = c .before .before .before in
-    let a = told .before .before .before .before .before .before .before .args in
-    let lent = lentOf (a .starts .now) (a .numbers .now) (a .times .now) (a .xs .now) (a .ys .now) in
-    fine-starts (a .p) (a .agent) lent (fine told)
+for-line-requires : tie.Need-for-line-requires
+for-line-requires c κs = search needs
+
+compute-safe-linear-path-wait-hints-requires : tie.Need-compute-safe-linear-path-wait-hints-requires
+compute-safe-linear-path-wait-hints-requires c κs = search needs
 
 returns-2 : tie.Need-returns-2
 unfolding askedHints
 returns-2 c =
     let refused = c .before .before .before in
-    rw (sym (refused .before .before .examine .ensures) ∙ refused .input .given .1) (c .refuse .ensures)
+    rw (sym (found (refused .before .before)) ∙ refused .input .given .1) (c .refuse .ensures)
 
 returns-3 : tie.Need-returns-3
 unfolding askedHints
 returns-3 c =
-    let brief = c .before .before .before in
-    rw (fine (brief .before), sym (brief .is-brief .ensures) ∙ c .before .before .if1 .left) (c .among .ensures)
+    let line = c .before .before .before .before in
+    let brief = line .before .before in
+    let told = brief .before in
+    let input = told .before .before in
+    let pack = input .before .before .before in
+    let fine = sym (input .examine .ensures) ∙ told .enum-told .given .1 in
+    rw (
+      sym (found input) ∙ told .enum-told .given .1,
+      sym (brief .is-brief .ensures) ∙ line .before .if1 .left,
+      ← packed-fine (lent pack) _ _ _ _ _ (pack .pack .ensures) fine,
+      ← line .for-line .ensures,
+    )
+    (c .compute-safe-linear-path-wait-hints .ensures)
 
 pub wait-hints-spec : {M : Type 1} → statement M
 wait-hints-spec =
     tie.close
     (tie.spec
+    pack-requires
     examine-requires
     enum-known-input
     refuse-requires
@@ -73,6 +94,7 @@ wait-hints-spec =
     is-brief-requires
     refuse-requires-2
     returns
-    among-requires
+    for-line-requires
+    compute-safe-linear-path-wait-hints-requires
     returns-2
     returns-3)

@@ -2,7 +2,7 @@
 -- Assumes nothing.
 use mathlib.Core.Path.{refl}
 use borrow.Author.Needs.{needs}
-use Rattle.waits.proofs.Added.{added-long, answer-given, answer-refused}
+use Rattle.hint_list.proofs.Added.{added-long, answer-given, answer-refused}
 use Rattle.hints.specs.Contour.{rankedHints}
 use Rattle.hints.proofs.Found.{refused-ranks}
 use Rattle.hints.proofs.path_hints.compute_safe_linear_path_wait_hints.Statement.{statement}

@@ -7,11 +7,11 @@ use borrow.Author.Needs.{needs}
 use lib.Dec.{T}
 use lib.Ieee.{binary64}
 use lib.Ieee.Bits.{ofBits-toBits}
-use Rattle.patterns.proofs.Words.{signed-back}
-use Rattle.waits.specs.Words.{countIn, hintIn}
-use Rattle.waits.specs.declared.hint.RankedHint.{RankedHint}
-use Rattle.waits.proofs.Reading.{few}
-use Rattle.waits.proofs.Words.{KeptRanked}
+use Rattle.number_words.proofs.Words.{signed-back}
+use Rattle.hint_list.specs.Words.{countIn, hintIn}
+use Rattle.hint_list.specs.declared.hint.RankedHint.{RankedHint}
+use Rattle.hint_list.proofs.Reading.{few}
+use Rattle.hint_list.proofs.Words.{KeptRanked}
 use Rattle.hints.specs.Contour.{gradeOf}
 use Rattle.hints.proofs.Walking.{SoFar, none-yet, found-next, one-more, one-strays, all-ranked, refused-over}
 use Rattle.hints.proofs.path_hints.rank.Statement.{statement}

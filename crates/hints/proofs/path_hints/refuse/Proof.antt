@@ -1,8 +1,8 @@
 -- `hints::path_hints::refuse` meets its contract: the number, and zeros throughout.
 -- Assumes nothing.
 use mathlib.Core.Path.{refl}
-use Rattle.waits.proofs.Reading.{no-hints}
-use Rattle.ranking.specs.Hints.{filledBy, rankedWords}
+use Rattle.hint_list.proofs.Reading.{no-hints}
+use Rattle.hint_ranking.specs.Hints.{filledBy, rankedWords}
 use Rattle.hints.proofs.path_hints.refuse.Statement.{statement}
 use Rattle.hints.proofs.path_hints.refuse.Tie as tie
 

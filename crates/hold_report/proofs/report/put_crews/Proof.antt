@@ -4,9 +4,9 @@ use Prim.Native.Nat.{ℕ, _+_, _-_, _≤_}
 use mathlib.Core.List.{List}
 use native.Mathlib.Omega.{arith}
 use lib.ListN.{length}
-use Rattle.lists.specs.Listed.{listedTo}
-use Rattle.lists.specs.Rows.{wordsIn}
-use Rattle.lists.proofs.Listed.{listed-done, listed-next}
+use Rattle.lent.specs.Listed.{listedTo}
+use Rattle.lent.specs.Rows.{wordsIn}
+use Rattle.lent.proofs.Listed.{listed-done, listed-next}
 use Rattle.texts.proofs.Putting.{Goes, goes-all, goes-on, goes-done, put-within}
 use Rattle.hold_report.specs.Told.{crewTold, crewsTold}
 use Rattle.hold_report.proofs.report.put_crews.Statement.{statement}

@@ -1,7 +1,7 @@
 -- `hold_report::report::put_report` meets its contract: the first line and those of the crews are put and then handed over.
 -- Assumes nothing.
 use Rattle.texts.specs.Letters.{bytesOf}
-use Rattle.wording.specs.Lines.{line}
+use Rattle.reply_lines.specs.Lines.{line}
 use Rattle.texts.proofs.Putting.{put-both, put-within}
 use Rattle.texts.proofs.Telling.{telling}
 use Rattle.hold_report.specs.Told.{wordsReport}

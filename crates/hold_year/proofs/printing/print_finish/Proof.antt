@@ -5,8 +5,8 @@ use denote.Ref.{now}
 use Prim.Native.Nat.{ℕ, _^_, _<_}
 use mathlib.Core.Path.{_≡_, sym, _∙_}
 use lib.ListN.{length}
-use Rattle.lists.specs.Outcome.{Outcome}
-use Rattle.wording.proofs.Printed.{text-printed, line-printed}
+use Rattle.lent.specs.Outcome.{Outcome}
+use Rattle.reply_lines.proofs.Printed.{text-printed, line-printed}
 use Rattle.hold_year.specs.Parts.{finished}
 use Rattle.hold_year.specs.Printed.{fitted, finishText}
 use Rattle.hold_year.proofs.Printed.{told-fitted, room-fitted, refused-fits}

@@ -6,9 +6,9 @@ use mathlib.Core.Path.{_≡_}
 use native.Mathlib.Omega.{arith}
 use Prim.Native.Nat.{ℕ, _^_, _<_}
 use lib.ListN.{length}
-use Rattle.lists.specs.Outcome.{roomOf}
+use Rattle.lent.specs.Outcome.{roomOf}
 use Rattle.texts.proofs.Telling.{put-in-zeros}
-use Rattle.wording.proofs.Sizes.{refused-short}
+use Rattle.reply_lines.proofs.Sizes.{refused-short}
 use Rattle.hold_year.proofs.printing.print_refusal.Statement.{statement}
 use Rattle.hold_year.proofs.printing.print_refusal.Tie as tie
 

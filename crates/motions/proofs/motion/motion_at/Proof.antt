@@ -3,8 +3,8 @@
 use mathlib.Core.Path.{_≡_, sym, _∙_}
 use mathlib.Core.Bool.{true}
 use borrow.Author.Needs.{needs}
-use Rattle.numbers.specs.Time.{spanBetween}
-use Rattle.numbers.specs.declared.time.Span.the-variants.{Of}
+use Rattle.times.specs.Time.{spanBetween}
+use Rattle.times.specs.declared.time.Span.the-variants.{Of}
 use Rattle.shapes.specs.Leg.{holds}
 use Rattle.motions.specs.Motion.{motionAt}
 use Rattle.floats.proofs.Tests.{found-true, found-false}

@@ -2,10 +2,10 @@
 -- Assumes nothing.
 use mathlib.Core.Path.{refl}
 use borrow.Author.Needs.{needs}
-use Rattle.patterns.proofs.ReadBack.{read-back}
-use Rattle.obstacles.specs.Lent.{lentOf}
-use Rattle.search.proofs.Words.{asked-words}
-use Rattle.taking.specs.Plain.{plainProfile, plainWaypoint}
+use Rattle.number_words.proofs.ReadBack.{read-back}
+use Rattle.table.specs.Lent.{lentOf}
+use Rattle.arrival_times.proofs.Words.{asked-words}
+use Rattle.shapes.specs.Plain.{plainProfile, plainWaypoint}
 use Rattle.plan_exports.proofs.arrival_calls.igelbert_arrival_times.Statement.{statement}
 use Rattle.plan_exports.proofs.arrival_calls.igelbert_arrival_times.Tie as tie
 

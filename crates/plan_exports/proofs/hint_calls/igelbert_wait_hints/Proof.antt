@@ -6,12 +6,12 @@ use native.Mathlib.Omega.{arith}
 use borrow.Author.Needs.{needs}
 use lib.ListN.{length}
 use lib.Seq.{length-take-le}
-use Rattle.lists.specs.Outcome.{Handed}
-use Rattle.waits.proofs.Reading.{few}
-use Rattle.ranking.specs.Hints.{Ranked, Ranks}
-use Rattle.lending.specs.Lent.{hintsOutcome}
-use Rattle.taking.specs.Plain.{plainLeg}
-use Rattle.taking.proofs.ReadLegs.{leg-read}
+use Rattle.lent.specs.Outcome.{Handed}
+use Rattle.hint_list.proofs.Reading.{few}
+use Rattle.hint_ranking.specs.Hints.{Ranked, Ranks}
+use Rattle.hint_words.specs.Lent.{hintsOutcome}
+use Rattle.shapes.specs.Plain.{plainLeg}
+use Rattle.shapes.proofs.ReadLegs.{leg-read}
 use Rattle.plan_exports.proofs.Given.{ranks-long, ranks-given}
 use Rattle.plan_exports.proofs.hint_calls.igelbert_wait_hints.Statement.{statement}
 use Rattle.plan_exports.proofs.hint_calls.igelbert_wait_hints.Tie as tie

@@ -2,9 +2,9 @@
 -- Assumes nothing.
 use mathlib.Core.Path.{_≡_}
 use borrow.Author.Needs.{needs}
-use Rattle.patterns.proofs.ReadBack.{read-back}
-use Rattle.taking.specs.Plain.{plainLeg}
-use Rattle.taking.proofs.ReadLegs.{leg-read}
+use Rattle.number_words.proofs.ReadBack.{read-back}
+use Rattle.shapes.specs.Plain.{plainLeg}
+use Rattle.shapes.proofs.ReadLegs.{leg-read}
 use Rattle.plan_exports.proofs.path_calls.igelbert_arrival_path.Statement.{statement}
 use Rattle.plan_exports.proofs.path_calls.igelbert_arrival_path.Tie as tie
 

@@ -2,8 +2,8 @@
 -- Assumes nothing.
 use mathlib.Core.Path.{_≡_}
 use borrow.Author.Needs.{needs}
-use Rattle.taking.specs.Plain.{plainLeg}
-use Rattle.taking.proofs.ReadLegs.{leg-read}
+use Rattle.shapes.specs.Plain.{plainLeg}
+use Rattle.shapes.proofs.ReadLegs.{leg-read}
 use Rattle.plan_exports.proofs.plan_calls.igelbert_linear_paths.Statement.{statement}
 use Rattle.plan_exports.proofs.plan_calls.igelbert_linear_paths.Tie as tie
 

@@ -4,7 +4,7 @@ use mathlib.Core.Path.{_≡_, sym, _∙_}
 use mathlib.Core.Bool.{true}
 use borrow.Author.Needs.{needs}
 use Rattle.shapes.specs.Leg.{isRising}
-use Rattle.limits.specs.Domain.{isLimit, isLeg}
+use Rattle.domain.specs.Domain.{isLimit, isLeg}
 use Rattle.proximity.specs.Asked.{legsExamined}
 use Rattle.floats.proofs.Tests.{found-true, found-false}
 use Rattle.proximity.proofs.calls.examine_legs.Statement.{statement}

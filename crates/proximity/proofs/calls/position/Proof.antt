@@ -4,7 +4,7 @@ use mathlib.Core.Path.{_≡_, sym, _∙_}
 use mathlib.Core.Bool.{true, false}
 use borrow.Author.Needs.{needs}
 use Rattle.shapes.specs.Leg.{isBackward}
-use Rattle.limits.specs.Domain.{isTime, isLeg}
+use Rattle.domain.specs.Domain.{isTime, isLeg}
 use Rattle.proximity.specs.Asked.{askedPosition}
 use Rattle.floats.proofs.Tests.{found-true, found-false}
 use Rattle.proximity.proofs.calls.position.Statement.{statement}

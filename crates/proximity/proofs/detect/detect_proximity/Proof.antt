@@ -4,7 +4,7 @@ use mathlib.Core.Path.{_≡_, sym, _∙_}
 use borrow.Author.Needs.{needs}
 use lib.Ieee.{ofBits}
 use Rattle.floats.specs.Compare.{sizeOf}
-use Rattle.numbers.specs.Time.{secondsOf}
+use Rattle.times.specs.Time.{secondsOf}
 use Rattle.proximity.specs.Proximity.{proximityOf}
 use Rattle.proximity.proofs.detect.detect_proximity.Statement.{statement}
 use Rattle.proximity.proofs.detect.detect_proximity.Tie as tie

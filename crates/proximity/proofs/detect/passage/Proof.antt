@@ -5,7 +5,7 @@ use borrow.Author.Needs.{needs}
 use lib.Ieee.{ofBits}
 use Rattle.floats.specs.Constants.{nought}
 use Rattle.floats.specs.Compare.{largerOf}
-use Rattle.numbers.specs.Time.{instantAfterSeconds}
+use Rattle.times.specs.Time.{instantAfterSeconds}
 use Rattle.proximity.specs.Proximity.{passage}
 use Rattle.proximity.proofs.detect.passage.Statement.{statement}
 use Rattle.proximity.proofs.detect.passage.Tie as tie

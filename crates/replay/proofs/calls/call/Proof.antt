@@ -4,9 +4,9 @@ use mathlib.Core.Path.{_≡_}
 use Prim.Native.Nat.{ℕ}
 use borrow.Author.Needs.{needs}
 use borrow.Author.Tests.{ne-eqb}
-use Rattle.patterns.specs.Word.{signedOf}
-use Rattle.patterns.proofs.ReadBack.{read, read-back}
-use Rattle.patterns.proofs.Words.{signed-fits}
+use Rattle.number_words.specs.Word.{signedOf}
+use Rattle.number_words.proofs.ReadBack.{read, read-back}
+use Rattle.number_words.proofs.Words.{signed-fits}
 use Rattle.replay.specs.Listed.{outcomeOf}
 use Rattle.replay.proofs.calls.call.Statement.{statement}
 use Rattle.replay.proofs.calls.call.Tie as tie

@@ -1,4 +1,4 @@
--- `root::nearest::root_bits` meets its contract: the number that `whole_root` is given is the widened digits.
+-- `root::nearest::root_bits` meets its contract: the number that `root_digits` is given, with 54 zeros, is the widened digits.
 -- Assumes nothing.
 use mathlib.Core.Path.{_≡_}
 use mathlib.Core.Logic.{⊎-elim}
@@ -28,26 +28,35 @@ digits-of-requires c κs = search needs
 mul-a : tie.Need-mul-a
 mul-a c = search needs
 
+add-digits : tie.Need-add-digits
+add-digits c = search needs
+
+mul-digits : tie.Need-mul-digits
+mul-digits c = search needs
+
+add-digits-2 : tie.Need-add-digits-2
+add-digits-2 c = search needs
+
+digits-requires : tie.Need-digits-requires
+digits-requires c κs = search needs
+
 add-result : tie.Need-add-result
 add-result c = search needs
 
 mul-result : tie.Need-mul-result
 mul-result c = search needs
 
-whole-root-requires : tie.Need-whole-root-requires
-whole-root-requires c κs = ⊎-elim (λ w. omega arith) (λ w. omega arith) (c .if1 .came)
+root-digits-requires : tie.Need-root-digits-requires
+root-digits-requires c κs = ⊎-elim (λ w. omega arith) (λ w. omega arith) (c .before .if1 .came)
 
 add-result-2 : tie.Need-add-result-2
-add-result-2 c = omega (arith, whole-small 54 (c .before .if1 .a * 2 ^ 54), c .whole-root .ensures)
-
-add-result-3 : tie.Need-add-result-3
-add-result-3 c = omega (arith, whole-small 54 (c .before .if1 .a * 2 ^ 54), c .whole-root .ensures)
+add-result-2 c = omega (arith, whole-small 54 (c .before .before .if1 .a * 2 ^ 54), c .root-digits .ensures)
 
 returns : tie.Need-returns
 returns c =
-    let X = leastUnits (ofBits binary64 (c .before .before .before .args .b)) in
-    let d = c .before .before .digits-of in
-    rw (pattern-is X (d .result .m) (d .result .j) (d .ensures .0), c .whole-root .ensures, given (c .before))
+    let X = leastUnits (ofBits binary64 (c .before .before .before .before .args .b)) in
+    let d = c .before .before .before .digits-of in
+    rw (pattern-is X (d .result .m) (d .result .j) (d .ensures .0), c .root-digits .ensures, given (c .before .before))
 
 pub root-bits-spec : {M : Type 1} → statement M
 root-bits-spec =
@@ -55,9 +64,12 @@ root-bits-spec =
     (tie.spec
     digits-of-requires
     mul-a
+    add-digits
+    mul-digits
+    add-digits-2
+    digits-requires
     add-result
     mul-result
-    whole-root-requires
+    root-digits-requires
     add-result-2
-    add-result-3
     returns)

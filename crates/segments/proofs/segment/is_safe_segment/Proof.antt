@@ -5,46 +5,43 @@ use mathlib.Core.Path.{_≡_, refl, sym, _∙_}
 use Prim.Native.Nat.{ℕ, _+_, _-_}
 use native.Mathlib.Omega.{arith}
 use borrow.Author.Needs.{needs}
-use lib.ListN.{length}
-use Rattle.lists.specs.Listed.{listedTo}
+use Rattle.lent.specs.Listed.{listedTo}
 use Rattle.shapes.specs.declared.waypoint.Leg.{Leg}
-use Rattle.shapes.specs.declared.waypoint.Waypoint.{Waypoint}
 use Rattle.conflicts.specs.Conflict.{judged}
 use Rattle.conflicts.specs.declared.conflict.Verdict.{Verdict}
 use Rattle.conflicts.specs.declared.conflict.Verdict.the-variants.{Clear}
 use Rattle.conflicts.proofs.Else.{no-entry, with-entry}
-use Rattle.obstacles.specs.Obstacle.{Obstacle, legsOf}
-use Rattle.obstacles.specs.Lent.{lentOf, profileIn, limitIn, waypointIn, obstacleIn, obstaclesWith}
-use Rattle.obstacles.specs.Boxes.{boxIn}
+use Rattle.table.specs.Obstacle.{Obstacle}
+use Rattle.table.specs.Table.{profileIn, limitIn, legIn, obstacleIn, obstaclesIn}
 use Rattle.segments.specs.Segment.{legVerdict, firstOf, obstacleVerdict, segmentOf}
-use Rattle.segments.proofs.Walk.{Ends, refusal-ends, first-done, first-next, first-here}
-use Rattle.segments.proofs.Walk.{legs-first-done, legs-first-next, legs-first-here, obstacle-begins}
+use Rattle.segments.proofs.Walk.{Ends, refusal-ends, first-done, first-next, first-here, obstacle-begins}
 use Rattle.segments.proofs.segment.is_safe_segment.Statement.{statement}
 use Rattle.segments.proofs.segment.is_safe_segment.Tie as tie
 
 abbrev Inv-loop : tie.InvT-loop
-Inv-loop agent bounds starts numbers times xs ys boxes found₀ o profile limit end last i₀ found i =
-    let w : ℕ → Waypoint = waypointIn times xs ys in
-    let says : Leg → Verdict = legVerdict agent bounds (profileIn numbers o .footprint) (limitIn numbers o) in
-    let obstacle = obstacleIn (lentOf starts numbers times xs ys) (boxIn boxes) o in
-    (found ≡ Clear) × (firstOf says (legsOf (listedTo w (last + 1) i)) ≡ obstacleVerdict agent bounds obstacle)
+Inv-loop agent bounds marks places found₀ count o profile limit last i₀ found i =
+    let leg : ℕ → Leg = legIn marks places in
+    let says : Leg → Verdict = legVerdict agent bounds (profileIn places o .footprint) (limitIn places o) in
+    (found ≡ Clear) × (firstOf says (listedTo leg last i) ≡ obstacleVerdict agent bounds (obstacleIn marks places o))
 
 abbrev μ-loop : tie.MeasureT-loop
-μ-loop agent bounds starts numbers times xs ys boxes found₀ o profile limit end last i₀ found i = last - i
+μ-loop agent bounds marks places found₀ count o profile limit last i₀ found i = last - i
 
 abbrev Inv-walk : tie.InvT-walk
-Inv-walk agent bounds starts numbers times xs ys boxes found₀ o₀ found o =
-    let lent = lentOf starts numbers times xs ys in
-    let f : ℕ → Obstacle = obstacleIn lent (boxIn boxes) in
+Inv-walk agent bounds marks places found₀ count o₀ found o =
+    let f : ℕ → Obstacle = obstacleIn marks places in
     let says : Obstacle → Verdict = obstacleVerdict agent bounds in
-    (found ≡ Clear) × (firstOf says (listedTo f (length starts) o) ≡ segmentOf agent bounds (obstaclesWith lent (boxIn boxes)))
+    (found ≡ Clear) × (firstOf says (listedTo f count o) ≡ segmentOf agent bounds (obstaclesIn marks places))
 
 abbrev μ-walk : tie.MeasureT-walk
-μ-walk agent bounds starts numbers times xs ys boxes found₀ o₀ found o = length starts - o
+μ-walk agent bounds marks places found₀ count o₀ found o = count - o
+
+count-of-requires : tie.Need-count-of-requires Inv-loop μ-loop Inv-walk μ-walk
+count-of-requires c κs = search needs
 
 walk-holds : tie.Need-walk-holds Inv-loop μ-loop Inv-walk μ-walk
-unfolding segmentOf obstaclesWith
-walk-holds c = (refl, refl)
+unfolding segmentOf obstaclesIn
+walk-holds c = (refl, rw (c .count-of .ensures))
 
 profile-at-requires : tie.Need-profile-at-requires Inv-loop μ-loop Inv-walk μ-walk
 profile-at-requires c κs = search needs
@@ -52,37 +49,18 @@ profile-at-requires c κs = search needs
 limit-at-requires : tie.Need-limit-at-requires Inv-loop μ-loop Inv-walk μ-walk
 limit-at-requires c κs = search needs
 
-box-at-requires : tie.Need-box-at-requires Inv-loop μ-loop Inv-walk μ-walk
-box-at-requires c κs = search needs
+walked-to-requires : tie.Need-walked-to-requires Inv-loop μ-loop Inv-walk μ-walk
+walked-to-requires c κs = search needs
 
-add-start-of : tie.Need-add-start-of Inv-loop μ-loop Inv-walk μ-walk
-add-start-of c = omega arith
-
-start-of-requires : tie.Need-start-of-requires Inv-loop μ-loop Inv-walk μ-walk
-start-of-requires c κs = search needs
-
-last-of-requires : tie.Need-last-of-requires Inv-loop μ-loop Inv-walk μ-walk
-last-of-requires c κs = search needs
-
-mul-i : tie.Need-mul-i Inv-loop μ-loop Inv-walk μ-walk
-mul-i c = omega arith
-
-shared-slice-read-i : tie.Need-shared-slice-read-i Inv-loop μ-loop Inv-walk μ-walk
-shared-slice-read-i c = omega arith
+first-of-requires : tie.Need-first-of-requires Inv-loop μ-loop Inv-walk μ-walk
+first-of-requires c κs = search needs
 
 loop-holds : tie.Need-loop-holds Inv-loop μ-loop Inv-walk μ-walk
 loop-holds c =
-    let end = c .before .before in
-    let more = end .before .before .before .before .walk-test .taken in
-    let w = end .before .before .before .before .before .walk in
-    let a = end .before .before .before .before .before .before .before .before .before .before .before .args in
-    let lent = lentOf (a .starts .now) (a .numbers .now) (a .times .now) (a .xs .now) (a .ys .now) in
-    let last = c .before .last-of in
-    let own = rw (end .before .box-at .ensures, end .start-of .ensures) at (last .ensures) in
-    (w .inv .0, obstacle-begins (a .agent) (a .bounds) lent (boxIn (a .boxes .now)) (w .o) (last .result) more own)
-
-add-leg-at : tie.Need-add-leg-at Inv-loop μ-loop Inv-walk μ-walk
-add-leg-at c = omega arith
+    let w = c .before .before .before .before .before in
+    let a = w .before .before .args in
+    let begins = obstacle-begins (a .agent) (a .bounds) (a .marks .now) (a .places .now) (w .walk .o) in
+    (w .walk .inv .0, rw (c .before .walked-to .ensures, c .first-of .ensures) begins)
 
 leg-at-requires : tie.Need-leg-at-requires Inv-loop μ-loop Inv-walk μ-walk
 leg-at-requires c κs = search needs
@@ -108,68 +86,65 @@ enum-told c = search needs
 -- The leg at hand: what the answer of proximity makes of it,
 abbrev said : tie.After-leg-proximity Inv-loop μ-loop Inv-walk μ-walk → Verdict
 said c =
-    let limit = c .before .before .before .before .before .before .before .before in
-    let a = limit .before .before .before .before .before .before .before .before .before .args in
+    let limit = c .before .before .before .before .before .before in
+    let a = limit .before .before .before .before .before .args in
     judged (limit .limit-at .result) (a .agent) (c .before .leg-at .result) (c .leg-proximity .result)
 
 -- which is what it says by the table's own numbers.
 leg-says : (c : tie.After-leg-proximity Inv-loop μ-loop Inv-walk μ-walk) →
     let l = c .before .before .before in
-    let walked = l .before .before .before .before .before .before .before .before in
-    let a = walked .before .before .before .before .before .before .args in
-    let w : ℕ → Waypoint = waypointIn (a .times .now) (a .xs .now) (a .ys .now) in
-    let p = profileIn (a .numbers .now) (walked .walk .o) in
-    let limit = limitIn (a .numbers .now) (walked .walk .o) in
+    let walked = l .before .before .before .before .before .before in
+    let a = walked .before .before .args in
+    let leg : ℕ → Leg = legIn (a .marks .now) (a .places .now) in
+    let p = profileIn (a .places .now) (walked .walk .o) in
+    let limit = limitIn (a .places .now) (walked .walk .o) in
     let i = l .loop .i in
-    said c ≡ legVerdict (a .agent) (a .bounds) (p .footprint) limit (record { start = w i; end = w (i + 1) })
+    said c ≡ legVerdict (a .agent) (a .bounds) (p .footprint) limit (leg i)
 leg-says c =
-    let limit = c .before .before .before .before .before .before .before .before in
+    let limit = c .before .before .before .before .before .before in
     c .leg-proximity .ensures ∙ rw (limit .before .profile-at .ensures, limit .limit-at .ensures, c .before .leg-at .ensures)
 
 -- Where it is clear, the walk over the legs goes on with the next;
 goes-on : (c : tie.After-leg-proximity Inv-loop μ-loop Inv-walk μ-walk) → said c ≡ Clear →
     let l = c .before .before .before in
-    let walked = l .before .before .before .before .before .before .before .before in
-    let a = walked .before .before .before .before .before .before .args in
-    let w : ℕ → Waypoint = waypointIn (a .times .now) (a .xs .now) (a .ys .now) in
-    let p = profileIn (a .numbers .now) (walked .walk .o) in
-    let says : Leg → Verdict = legVerdict (a .agent) (a .bounds) (p .footprint) (limitIn (a .numbers .now) (walked .walk .o)) in
-    let lent = lentOf (a .starts .now) (a .numbers .now) (a .times .now) (a .xs .now) (a .ys .now) in
-    firstOf says (legsOf (listedTo w (l .before .before .last-of .result + 1) (l .loop .i + 1))) ≡
-    obstacleVerdict (a .agent) (a .bounds) (obstacleIn lent (boxIn (a .boxes .now)) (walked .walk .o))
+    let walked = l .before .before .before .before .before .before in
+    let a = walked .before .before .args in
+    let leg : ℕ → Leg = legIn (a .marks .now) (a .places .now) in
+    let p = profileIn (a .places .now) (walked .walk .o) in
+    let says : Leg → Verdict = legVerdict (a .agent) (a .bounds) (p .footprint) (limitIn (a .places .now) (walked .walk .o)) in
+    firstOf says (listedTo leg (l .before .before .walked-to .result) (l .loop .i + 1)) ≡
+    obstacleVerdict (a .agent) (a .bounds) (obstacleIn (a .marks .now) (a .places .now) (walked .walk .o))
 goes-on c e =
     let l = c .before .before .before in
-    let walked = l .before .before .before .before .before .before .before .before in
-    let a = walked .before .before .before .before .before .before .args in
-    let w : ℕ → Waypoint = waypointIn (a .times .now) (a .xs .now) (a .ys .now) in
-    let p = profileIn (a .numbers .now) (walked .walk .o) in
-    let says : Leg → Verdict = legVerdict (a .agent) (a .bounds) (p .footprint) (limitIn (a .numbers .now) (walked .walk .o)) in
-    let last = l .before .before .last-of .result in
+    let walked = l .before .before .before .before .before .before in
+    let a = walked .before .before .args in
+    let leg : ℕ → Leg = legIn (a .marks .now) (a .places .now) in
+    let p = profileIn (a .places .now) (walked .walk .o) in
+    let says : Leg → Verdict = legVerdict (a .agent) (a .bounds) (p .footprint) (limitIn (a .places .now) (walked .walk .o)) in
+    let last = l .before .before .walked-to .result in
     let more = c .before .before .loop-test .taken in
-    sym (legs-first-next says w last (l .loop .i) more (sym (leg-says c) ∙ e)) ∙ l .loop .inv .1
+    sym (first-next says leg last (l .loop .i) more (sym (leg-says c) ∙ e)) ∙ l .loop .inv .1
 
 -- any other answer is that of the whole walk.
 ends-here : (c : tie.After-leg-proximity Inv-loop μ-loop Inv-walk μ-walk) (v : Verdict) → Ends v → v ≡ said c →
-    let walked = c .before .before .before .before .before .before .before .before .before .before .before in
-    let a = walked .before .before .before .before .before .before .args in
-    let lent = lentOf (a .starts .now) (a .numbers .now) (a .times .now) (a .xs .now) (a .ys .now) in
-    v ≡ segmentOf (a .agent) (a .bounds) (obstaclesWith lent (boxIn (a .boxes .now)))
+    let walked = c .before .before .before .before .before .before .before .before .before in
+    let a = walked .before .before .args in
+    v ≡ segmentOf (a .agent) (a .bounds) (obstaclesIn (a .marks .now) (a .places .now))
 ends-here c v k e =
     let l = c .before .before .before in
-    let walked = l .before .before .before .before .before .before .before .before in
-    let more = l .before .before .before .before .before .before .before .walk-test .taken in
-    let a = walked .before .before .before .before .before .before .args in
-    let w : ℕ → Waypoint = waypointIn (a .times .now) (a .xs .now) (a .ys .now) in
-    let p = profileIn (a .numbers .now) (walked .walk .o) in
-    let limit = limitIn (a .numbers .now) (walked .walk .o) in
+    let walked = l .before .before .before .before .before .before in
+    let more = l .before .before .before .before .before .walk-test .taken in
+    let a = walked .before .before .args in
+    let leg : ℕ → Leg = legIn (a .marks .now) (a .places .now) in
+    let p = profileIn (a .places .now) (walked .walk .o) in
+    let limit = limitIn (a .places .now) (walked .walk .o) in
     let legSays : Leg → Verdict = legVerdict (a .agent) (a .bounds) (p .footprint) limit in
-    let lent = lentOf (a .starts .now) (a .numbers .now) (a .times .now) (a .xs .now) (a .ys .now) in
-    let f : ℕ → Obstacle = obstacleIn lent (boxIn (a .boxes .now)) in
+    let f : ℕ → Obstacle = obstacleIn (a .marks .now) (a .places .now) in
     let says : Obstacle → Verdict = obstacleVerdict (a .agent) (a .bounds) in
-    let last = l .before .before .last-of .result in
+    let last = l .before .before .walked-to .result in
     let on = c .before .before .loop-test .taken in
-    let own = legs-first-here legSays w last (l .loop .i) v k on (e ∙ leg-says c) in
-    first-here says f (length (a .starts .now)) (walked .walk .o) v k more (own ∙ l .loop .inv .1) ∙ walked .walk .inv .1
+    let own = first-here legSays leg last (l .loop .i) v k on (e ∙ leg-says c) in
+    first-here says f (walked .before .count-of .result) (walked .walk .o) v k more (own ∙ l .loop .inv .1) ∙ walked .walk .inv .1
 
 loop-less : tie.Need-loop-less Inv-loop μ-loop Inv-walk μ-walk
 loop-less c = omega arith
@@ -179,8 +154,8 @@ missing-says : (c : tie.After-enum-told Inv-loop μ-loop Inv-walk μ-walk) → s
 missing-says c =
     let other = c .before .before .before in
     let near = other .before in
-    let limit = near .before .before .before .before .before .before .before .before in
-    let a = limit .before .before .before .before .before .before .before .before .before .args in
+    let limit = near .before .before .before .before .before .before in
+    let a = limit .before .before .before .before .before .args in
     let missing = sym (c .before .before .entry .ensures) ∙ c .enum-told .given .1 in
     let answer = near .leg-proximity .result in
     no-entry (limit .limit-at .result) (a .agent) (near .before .leg-at .result) answer (other .match .keys2) missing
@@ -199,8 +174,8 @@ entry-says : (c : tie.After-entered-at Inv-loop μ-loop Inv-walk μ-walk) →
 entry-says c =
     let entry = c .before .before .before .before in
     let near = entry .before .before in
-    let limit = near .before .before .before .before .before .before .before .before in
-    let a = limit .before .before .before .before .before .before .before .before .before .args in
+    let limit = near .before .before .before .before .before .before in
+    let a = limit .before .before .before .before .before .args in
     let t = sym (entry .entry .ensures) ∙ c .before .before .t .given .1 in
     c .entered-at .ensures ∙
     sym (with-entry (limit .limit-at .result) (a .agent) (near .before .leg-at .result) (near .leg-proximity .result) _ t)
@@ -226,28 +201,27 @@ walk-less c = omega arith
 walk-again : tie.Need-walk-again Inv-loop μ-loop Inv-walk μ-walk
 walk-again c =
     let l = c .before in
-    let walked = l .before .before .before .before .before .before .before .before in
-    let more = l .before .before .before .before .before .before .before .walk-test .taken in
-    let a = walked .before .before .before .before .before .before .args in
-    let w : ℕ → Waypoint = waypointIn (a .times .now) (a .xs .now) (a .ys .now) in
-    let p = profileIn (a .numbers .now) (walked .walk .o) in
-    let limit = limitIn (a .numbers .now) (walked .walk .o) in
+    let walked = l .before .before .before .before .before .before in
+    let more = l .before .before .before .before .before .walk-test .taken in
+    let a = walked .before .before .args in
+    let leg : ℕ → Leg = legIn (a .marks .now) (a .places .now) in
+    let p = profileIn (a .places .now) (walked .walk .o) in
+    let limit = limitIn (a .places .now) (walked .walk .o) in
     let legSays : Leg → Verdict = legVerdict (a .agent) (a .bounds) (p .footprint) limit in
-    let lent = lentOf (a .starts .now) (a .numbers .now) (a .times .now) (a .xs .now) (a .ys .now) in
-    let f : ℕ → Obstacle = obstacleIn lent (boxIn (a .boxes .now)) in
+    let f : ℕ → Obstacle = obstacleIn (a .marks .now) (a .places .now) in
     let says : Obstacle → Verdict = obstacleVerdict (a .agent) (a .bounds) in
-    let last = l .before .before .last-of .result in
-    let clear = sym (l .loop .inv .1) ∙ legs-first-done legSays w last (l .loop .i) (c .loop-test .left) in
-    (l .loop .inv .0, sym (first-next says f (length (a .starts .now)) (walked .walk .o) more clear) ∙ walked .walk .inv .1)
+    let last = l .before .before .walked-to .result in
+    let clear = sym (l .loop .inv .1) ∙ first-done legSays leg last (l .loop .i) (c .loop-test .left) in
+    let count = walked .before .count-of .result in
+    (l .loop .inv .0, sym (first-next says f count (walked .walk .o) more clear) ∙ walked .walk .inv .1)
 
 returns : tie.Need-returns Inv-loop μ-loop Inv-walk μ-walk
 returns c =
     let w = c .before .walk in
-    let a = c .before .before .before .before .before .before .before .args in
-    let lent = lentOf (a .starts .now) (a .numbers .now) (a .times .now) (a .xs .now) (a .ys .now) in
-    let f : ℕ → Obstacle = obstacleIn lent (boxIn (a .boxes .now)) in
+    let a = c .before .before .before .args in
+    let f : ℕ → Obstacle = obstacleIn (a .marks .now) (a .places .now) in
     let says : Obstacle → Verdict = obstacleVerdict (a .agent) (a .bounds) in
-    w .inv .0 ∙ sym (first-done says f (length (a .starts .now)) (w .o) (c .walk-test .left)) ∙ w .inv .1
+    w .inv .0 ∙ sym (first-done says f (c .before .before .count-of .result) (w .o) (c .walk-test .left)) ∙ w .inv .1
 
 returns-2 : tie.Need-returns-2 Inv-loop μ-loop Inv-walk μ-walk
 returns-2 c =
@@ -267,17 +241,13 @@ is-safe-segment-spec =
     μ-loop
     Inv-walk
     μ-walk
+    count-of-requires
     walk-holds
     profile-at-requires
     limit-at-requires
-    box-at-requires
-    add-start-of
-    start-of-requires
-    last-of-requires
-    mul-i
-    shared-slice-read-i
+    walked-to-requires
+    first-of-requires
     loop-holds
-    add-leg-at
     leg-at-requires
     add-i
     leg-proximity-requires

@@ -2,8 +2,8 @@
 -- Assumes nothing.
 use mathlib.Core.Path.{refl, _∙_}
 use borrow.Author.Needs.{needs}
-use Rattle.lists.specs.Outcome.{roomOf}
-use Rattle.lists.proofs.Filling.{wiped-whole}
+use Rattle.lent.specs.Outcome.{roomOf}
+use Rattle.lent.proofs.Filling.{wiped-whole}
 use Rattle.texts.specs.Room.{toldOf}
 use Rattle.texts.proofs.room.refuse.Statement.{statement}
 use Rattle.texts.proofs.room.refuse.Tie as tie

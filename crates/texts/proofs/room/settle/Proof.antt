@@ -3,7 +3,7 @@
 use mathlib.Core.Path.{_∙_}
 use borrow.Author.Tests.{lt-ltb, le-ltb}
 use lib.ListN.{length}
-use Rattle.lists.proofs.Filling.{wiped-whole}
+use Rattle.lent.proofs.Filling.{wiped-whole}
 use borrow.Author.Needs.{needs}
 use Rattle.texts.proofs.room.settle.Statement.{statement}
 use Rattle.texts.proofs.room.settle.Tie as tie

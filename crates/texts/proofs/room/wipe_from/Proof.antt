@@ -4,8 +4,8 @@ use mathlib.Core.Path.{_≡_, refl, sym, _∙_}
 use Prim.Native.Nat.{_-_}
 use native.Mathlib.Omega.{arith}
 use lib.ListN.{length, length-set}
-use Rattle.lists.specs.Outcome.{wiped}
-use Rattle.lists.proofs.Filling.{wiped-step, wiped-past}
+use Rattle.lent.specs.Outcome.{wiped}
+use Rattle.lent.proofs.Filling.{wiped-step, wiped-past}
 use Rattle.texts.proofs.room.wipe_from.Statement.{statement}
 use Rattle.texts.proofs.room.wipe_from.Tie as tie
 

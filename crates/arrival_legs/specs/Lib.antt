@@ -1,0 +1,3 @@
+pub mod Watched
+pub mod Table
+pub mod Track

@@ -1,0 +1,7 @@
+mod Sweeping
+mod Keeping
+mod Wiping
+mod Telling
+pub mod Few
+mod Room
+pub mod Words

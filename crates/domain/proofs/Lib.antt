@@ -1,0 +1,4 @@
+pub mod Within
+pub mod Vectors
+pub mod Distance
+pub mod Fine

@@ -1,0 +1,2 @@
+// Hints that a call is lent as words.
+pub mod taken;

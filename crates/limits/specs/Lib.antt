@@ -1,2 +1,0 @@
-pub mod Domain
-pub mod Asked

@@ -1,2 +1,0 @@
-pub mod Watched
-pub mod Table

@@ -1,4 +1,0 @@
-pub mod Obstacle
-pub mod Lent
-pub mod Boxes
-pub mod Examined

@@ -1,0 +1,6 @@
+mod Few
+mod Fewer
+mod Keeping
+mod Among
+mod Hinted
+mod Packed

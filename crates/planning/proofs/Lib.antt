@@ -1,5 +1,0 @@
-mod Few
-mod Fewer
-mod Keeping
-mod Among
-mod Hinted
