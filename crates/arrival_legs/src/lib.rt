@@ -1,4 +1,6 @@
 // What the obstacles of a lent table say of a candidate: near legs, exits, the next candidate.
+#![tactic(auto)]
+
 pub mod adjust;
 pub mod near;
 pub mod next_candidate;

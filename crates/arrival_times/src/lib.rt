@@ -1,4 +1,6 @@
 // The search for safe arrival times over a lent table.
+#![tactic(auto)]
+
 pub mod calls;
 pub mod listing;
 pub mod soonest;

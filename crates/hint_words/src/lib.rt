@@ -1,2 +1,4 @@
 // Hints that a call is lent as words.
+#![tactic(auto)]
+
 pub mod taken;

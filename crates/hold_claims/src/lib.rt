@@ -1,1 +1,3 @@
 // What a crew can have checked of a year's report.
+#![tactic(auto)]
+

@@ -1,4 +1,6 @@
 // Reads a year's holds from standard input, part by part, and writes their report (docs/RULES.md, section 21).
+#![tactic(auto)]
+
 use hold_year::year::Fed;
 use hold_year::{printing, year};
 

@@ -1,2 +1,4 @@
 // The reply to a stream, and what `plan` prints for it.
+#![tactic(auto)]
+
 pub mod replying;
