@@ -8,8 +8,7 @@ use native.Mathlib.Omega.{arith}
 use lib.Dec.{leb}
 use lib.ListN.{length}
 use Rattle.lent.specs.Rows.{has_room}
-use Rattle.lent.proofs.rows.has_room.Statement.{statement}
-use Rattle.lent.proofs.rows.has_room.Tie as tie
+use Rattle.lent.proofs.rows.has_room.Goals as goal
 
 in_fours : (rows room : ℕ) → leb rows (room / 4) ≡ has_room room rows
 unfolding has_room
@@ -19,8 +18,5 @@ in_fours rows room = by (leb rows (room / 4)) refl
     by true e = sym (le-leb (4 * rows) room (omega (arith, leb-true rows (room / 4) e)))
     by false e = sym (lt-leb (4 * rows) room (omega (arith, leb-false rows (room / 4) e)))
 
-returns : tie.Need-returns
+pub returns : goal.returns
 returns c = in_fours c.args.rows (length c.args.out.now)
-
-pub has-room-spec : {M : Type 1} → statement M
-has-room-spec = tie.close (tie.spec returns)

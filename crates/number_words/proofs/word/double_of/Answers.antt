@@ -7,8 +7,7 @@ use borrow.Author.Tests.{lt-ltb, le-ltb}
 use lib.Ieee
 use lib.Ieee.{Float, nan, inf, fin, binary64, is_nan}
 use lib.Ieee.Bits.{nan_bits_above, nan_bits_is}
-use Rattle.number_words.proofs.word.double_of.Statement.{statement}
-use Rattle.number_words.proofs.word.double_of.Tie as tie
+use Rattle.number_words.proofs.word.double_of.Goals as goal
 
 is-nan : (x : Float) → is_nan x ≡ true → nan ≡ x
 unfolding is_nan
@@ -16,13 +15,10 @@ is-nan nan e = λ i. nan
 is-nan (inf s) e = absurd (false≢true e)
 is-nan (fin s m d) e = absurd (false≢true e)
 
-returns : tie.Need-returns
+pub returns-then-w-gt9218868437227405312 : goal.returns-then-w-gt9218868437227405312
 unfolding Ieee.div Ieee.of_bits
-returns c =
-    is-nan _ (sym (nan_bits_is binary64 c.before.args.w) ∙ nan_bits_above binary64 c.before.args.w ∙ lt-ltb _ _ c.if1.true)
+returns-then-w-gt9218868437227405312 c =
+    is-nan _ (sym (nan_bits_is binary64 c.args.w) ∙ nan_bits_above binary64 c.args.w ∙ lt-ltb _ _ c.if-w-gt9218868437227405312.true)
 
-float-from-bits-result : tie.Need-float-from-bits-result
-float-from-bits-result c = rw (nan_bits_above binary64 c.before.args.w ∙ le-ltb _ _ c.if1.false) tt
-
-pub double-of-spec : {M : Type 1} → statement M
-double-of-spec = tie.close (tie.spec returns float-from-bits-result (λ c. search rules))
+pub float_from_bits-result : goal.float_from_bits-result
+float_from_bits-result c = rw (nan_bits_above binary64 c.args.w ∙ le-ltb _ _ c.if-w-gt9218868437227405312.false) tt

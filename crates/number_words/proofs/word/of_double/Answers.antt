@@ -7,8 +7,7 @@ use lib.Dec.{T}
 use lib.Ieee
 use lib.Ieee.{Float, nan, inf, fin, ne, eq, is_nan}
 use lib.Ieee.Compare.{differs_from_itself}
-use Rattle.number_words.proofs.word.of_double.Statement.{statement}
-use Rattle.number_words.proofs.word.of_double.Tie as tie
+use Rattle.number_words.proofs.word.of_double.Goals as goal
 
 no_nan : (x : Float) → ne x x ≡ false → T (not (is_nan x))
 unfolding ne eq is_nan
@@ -16,12 +15,9 @@ no_nan nan e = subst T e tt
 no_nan (inf s) e = tt
 no_nan (fin s m d) e = tt
 
-returns : tie.Need-returns
+pub returns-then-x : goal.returns-then-x
 unfolding Ieee.to_bits
-returns c = rw (differs_from_itself c.before.args.x (subst T (sym c.if1.true) tt))
+returns-then-x c = rw (differs_from_itself c.args.x (subst T (sym c.if-x.true) tt))
 
-float-to-bits-result : tie.Need-float-to-bits-result
-float-to-bits-result c = no_nan c.before.args.x c.if1.false
-
-pub of-double-spec : {M : Type 1} → statement M
-of-double-spec = tie.close (tie.spec returns float-to-bits-result (λ c. search rules))
+pub float_to_bits-result : goal.float_to_bits-result
+float_to_bits-result c = no_nan c.args.x c.if-x.false
