@@ -6,7 +6,7 @@ use shapes::profile::CircularProfile;
 use table::{reading, walked};
 
 // The squared distance that its legs are held to, and its first and its last waypoint.
-#[derive(Drop)]
+#[derive(Clone, Copy)]
 pub struct Track {
     pub limit: f64,
     pub first: usize,

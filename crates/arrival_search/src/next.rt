@@ -5,7 +5,7 @@ ghost use Rattle.arrival_search.specs.Legs.{sooner};
 use times::time::TimePoint;
 
 // None, an instant, or a refusal and its number.
-#[derive(Drop)]
+#[derive(Clone, Copy)]
 pub enum Next {
     Missing,
     At(TimePoint),

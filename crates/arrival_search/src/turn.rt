@@ -2,7 +2,7 @@
 use times::time::TimePoint;
 
 // One obstacle: it does not push; pushes to an instant; pushes with no result; or a refusal and its number.
-#[derive(Drop)]
+#[derive(Clone, Copy)]
 pub enum Adjustment {
     Quiet,
     Pushed(TimePoint),
@@ -11,7 +11,7 @@ pub enum Adjustment {
 }
 
 // A sweep over all: none pushed; the candidate was pushed to an instant; a push had no result; or a refusal and its number.
-#[derive(Drop)]
+#[derive(Clone, Copy)]
 pub enum Swept {
     Still,
     Moved(TimePoint),
@@ -21,7 +21,7 @@ pub enum Swept {
 
 // What follows a sweep: the search ends; the candidate is listed and it ends; the next sweep begins at an instant; the candidate
 // is listed and the next sweep begins at an instant; or a refusal and its number.
-#[derive(Drop)]
+#[derive(Clone, Copy)]
 pub enum Turn {
     Ends,
     Lists,

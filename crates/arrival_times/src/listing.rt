@@ -11,7 +11,7 @@ use shapes::waypoint::Waypoint;
 use times::time::TimePoint;
 
 // How many times are listed, and by how many sweeps; or a refusal and its number.
-#[derive(Drop)]
+#[derive(Clone, Copy)]
 pub enum Arrivals {
     Listed(usize, usize),
     Refused(u64),

@@ -11,7 +11,7 @@ use shapes::waypoint::Leg;
 use times::time::{Span, TimePoint};
 
 // No conflict, a conflict, or a refusal and its number.
-#[derive(Drop)]
+#[derive(Clone, Copy)]
 pub enum Verdict {
     Clear,
     Conflict,

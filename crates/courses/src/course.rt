@@ -9,7 +9,7 @@ use shapes::waypoint::Leg;
 use times::time::{Span, TimePoint};
 
 // A leg with its seconds and its velocity.
-#[derive(Drop)]
+#[derive(Clone, Copy)]
 pub struct Run {
     pub start: TimePoint,
     pub end: TimePoint,
@@ -20,14 +20,14 @@ pub struct Run {
 }
 
 // A leg in motion, or refusal 7.
-#[derive(Drop)]
+#[derive(Clone, Copy)]
 pub enum Ran {
     Of(Run),
     Strayed,
 }
 
 // The agent's leg, its direction and length, and its speed along it.
-#[derive(Drop)]
+#[derive(Clone, Copy)]
 pub struct Course {
     pub run: Run,
     pub direction: Vector,
@@ -36,7 +36,7 @@ pub struct Course {
 }
 
 // A course, none where the agent hardly moves, or a refusal and its number.
-#[derive(Drop)]
+#[derive(Clone, Copy)]
 pub enum Heading {
     Along(Course),
     Missing,

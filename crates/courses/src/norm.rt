@@ -7,7 +7,7 @@ use root::nearest::Root;
 use shapes::vector::Vector;
 
 // A direction, none for a vector that is hardly longer than nothing, or refusal 1: the length has no root.
-#[derive(Drop)]
+#[derive(Clone, Copy)]
 pub enum Direction {
     Along(Vector),
     Missing,

@@ -10,21 +10,21 @@ use shapes::profile::CircularProfile;
 use shapes::waypoint::Leg;
 
 // A distance, or refusal 1.
-#[derive(Drop)]
+#[derive(Clone, Copy)]
 pub enum Distance {
     Of(f64),
     Refused,
 }
 
 // A box, or a refusal and its number.
-#[derive(Drop)]
+#[derive(Clone, Copy)]
 pub enum Boxed {
     Of(BoundingBox),
     Refused(u64),
 }
 
 // Whether two boxes overlap, or refusal 1.
-#[derive(Drop)]
+#[derive(Clone, Copy)]
 pub enum Overlap {
     Apart,
     Together,

@@ -11,7 +11,7 @@ use shapes::waypoint::{Leg, Waypoint};
 use times::time::TimePoint;
 
 // What examining a call's input finds: nothing wrong, or a refusal and its number.
-#[derive(Drop)]
+#[derive(Clone, Copy)]
 pub enum Examined {
     Fine,
     Refused(u64),

@@ -7,7 +7,7 @@ use shapes::vector::Vector;
 use times::time::Span;
 
 // The distances that the agent keeps from an obstacle: the critical one, its square, and the one that it follows at.
-#[derive(Drop)]
+#[derive(Clone, Copy)]
 pub struct Gaps {
     pub critical: f64,
     pub squared: f64,
@@ -15,7 +15,7 @@ pub struct Gaps {
 }
 
 // Where the leg is first seen from the agent's start, and when, in seconds; or refusal 7.
-#[derive(Drop)]
+#[derive(Clone, Copy)]
 pub enum Sight {
     At(Vector, f64),
     Strayed,
@@ -23,7 +23,7 @@ pub enum Sight {
 
 // What does not change from round to round. `ahead` is how far ahead of the agent's start the leg was seen, `since` when it
 // began, `aligned` its speed along the agent's line; `gap` is the critical distance, `rest` the seconds of a wait.
-#[derive(Drop)]
+#[derive(Clone, Copy)]
 pub struct Chase {
     pub ahead: f64,
     pub since: f64,
@@ -34,7 +34,7 @@ pub struct Chase {
 }
 
 // The first round sets out from `s` metres along the line at `t` seconds, after a wait at a place or without one.
-#[derive(Drop)]
+#[derive(Clone, Copy)]
 pub enum Opening {
     Waits(Vector, f64, f64),
     Goes(f64, f64),

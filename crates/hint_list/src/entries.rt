@@ -12,7 +12,7 @@ use shapes::vector::Vector;
 use times::time::{Duration, TimePoint};
 
 // How many hints a list holds now, or a refusal and its number.
-#[derive(Drop)]
+#[derive(Clone, Copy)]
 pub enum Filled {
     Of(usize),
     Refused(u64),

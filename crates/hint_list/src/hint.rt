@@ -8,7 +8,7 @@ use shapes::vector::Vector;
 use times::time::{Duration, TimePoint};
 
 // A place on the agent's line, the instant until which to wait there, and the number of the obstacle that is waited for.
-#[derive(Drop)]
+#[derive(Clone, Copy)]
 pub struct WaitHint {
     pub place: Vector,
     pub until: TimePoint,
@@ -16,7 +16,7 @@ pub struct WaitHint {
 }
 
 // A hint, how late the agent is that waits there, and how far along its line that is.
-#[derive(Drop)]
+#[derive(Clone, Copy)]
 pub struct RankedHint {
     pub contour: Duration,
     pub reach: f64,
@@ -24,7 +24,7 @@ pub struct RankedHint {
 }
 
 // Where to wait and until when, that there is nothing to wait for, or a refusal and its number.
-#[derive(Drop)]
+#[derive(Clone, Copy)]
 pub enum Wait {
     At(Vector, TimePoint),
     Nothing,

@@ -11,7 +11,7 @@ use hint_list::hint::WaitHint;
 use times::time::{Instant, TimePoint};
 
 // Where a round ends: how far along the line, at how many seconds, and whether that is the end of the line.
-#[derive(Drop)]
+#[derive(Clone, Copy)]
 pub struct Stride {
     pub s: f64,
     pub t: f64,
@@ -19,7 +19,7 @@ pub struct Stride {
 }
 
 // A round: its hint, and where the next sets out from if there is one; or refusal 7.
-#[derive(Drop)]
+#[derive(Clone, Copy)]
 pub enum Round {
     Next(WaitHint, f64, f64),
     Last(WaitHint),

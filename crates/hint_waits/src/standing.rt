@@ -8,7 +8,7 @@ use line_proximity::stationary;
 use line_proximity::stationary::Stay;
 
 // When the agent comes near, of the seconds for the two ends of a leg: those from 0 on count.
-#[derive(Drop)]
+#[derive(Clone, Copy)]
 pub enum Begin {
     At(f64),
     Missing,

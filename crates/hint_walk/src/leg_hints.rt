@@ -12,7 +12,7 @@ use hint_list::entries::Filled;
 use hint_waits::{crossing, oncoming, standing};
 
 // What follows the crossing hint: the leg comes on, outpaces the agent, is followed, or stands.
-#[derive(Drop)]
+#[derive(Clone, Copy)]
 pub enum Part {
     Oncoming,
     Outpacing,

@@ -16,7 +16,7 @@ use shapes::waypoint::Leg;
 use table::{reading, walked};
 
 // What the search needs of an obstacle: its number, its footprint, and the distances that the agent keeps from it.
-#[derive(Drop)]
+#[derive(Clone, Copy)]
 pub struct Other {
     pub number: usize,
     pub footprint: f64,

@@ -10,7 +10,7 @@ use shapes::waypoint::Leg;
 use times::time::{Duration, Span, TimePoint};
 
 // What hints are measured by: the agent's start, its direction, and its speed along it.
-#[derive(Drop)]
+#[derive(Clone, Copy)]
 pub struct Scale {
     pub start: TimePoint,
     pub from: Vector,
@@ -19,14 +19,14 @@ pub struct Scale {
 }
 
 // A scale, or a refusal and its number.
-#[derive(Drop)]
+#[derive(Clone, Copy)]
 pub enum Scaling {
     By(Scale),
     Refused(u64),
 }
 
 // A ranked hint, or refusal 7.
-#[derive(Drop)]
+#[derive(Clone, Copy)]
 pub enum Grade {
     Of(RankedHint),
     Strayed,

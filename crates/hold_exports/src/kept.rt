@@ -8,21 +8,21 @@ use hold_year::year::Reading;
 use lent::words;
 
 // What the words say where the reading stands; or that they are none of ours.
-#[derive(Drop)]
+#[derive(Clone, Copy)]
 pub enum Stands {
     At(Place),
     Nowhere,
 }
 
 // The reading that a memory holds, if it was begun and not refused since.
-#[derive(Drop)]
+#[derive(Clone, Copy)]
 pub enum Kept {
     Of(Reading),
     Nothing,
 }
 
 // A place in three words: its kind, the crew's number, and the digits so far; 0 for what a place does not have.
-#[derive(Drop)]
+#[derive(Clone, Copy)]
 pub struct Spelt(pub u64, pub u64, pub u64);
 
 // The place of a kind, with the crew's number and the digits that go with it.

@@ -4,14 +4,14 @@ ghost use Rattle.std.specs.Prelude.{◌≡◌, ◌<◌};
 ghost use Rattle.hold_figures.specs.Words.{raised_sum, with_crew, CountsRound};
 
 // A sum of two raised numbers, raised; or that it leaves the signed numbers of 64 bits.
-#[derive(Drop)]
+#[derive(Clone, Copy)]
 pub enum Sum {
     Of(u64),
     Over,
 }
 
 // The round is counted; or a refusal and its number, and no word has changed.
-#[derive(Drop)]
+#[derive(Clone, Copy)]
 pub enum Counted {
     Fine,
     Refused(u64),

@@ -5,7 +5,7 @@ ghost use Rattle.hold_lines.specs.Place.{first_digit, next_digit, stepped, close
 // Before the line's first byte; in the crew's number; behind the space after it; in the round's number; behind the space after
 // that; behind a minus sign; in a hold of zero or more; in the size of one below zero; or broken, since no line begins so. The
 // crew's number is carried along, and of the number that is being read what its digits make so far.
-#[derive(Drop)]
+#[derive(Clone, Copy)]
 pub enum Place {
     Start,
     Crew(u64),
@@ -19,14 +19,14 @@ pub enum Place {
 }
 
 // What digits make, or that they are no decimal of the line.
-#[derive(Drop)]
+#[derive(Clone, Copy)]
 pub enum Digits {
     Of(u64),
     Wrong,
 }
 
 // A whole line: its crew, and its hold raised by 2^63, so that it is a number of 64 bits without a sign; or no line.
-#[derive(Drop)]
+#[derive(Clone, Copy)]
 pub enum Line {
     Hold(u64, u64),
     Broken,

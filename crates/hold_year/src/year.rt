@@ -12,14 +12,14 @@ use texts::room;
 use texts::room::Told;
 
 // How many lines were taken, and where the reading of the next one stands.
-#[derive(Drop)]
+#[derive(Clone, Copy)]
 pub struct Reading {
     pub lines: u64,
     pub place: Place,
 }
 
 // The reading goes on; or a refusal and its number.
-#[derive(Drop)]
+#[derive(Clone, Copy)]
 pub enum Fed {
     On(Reading),
     Refused(u64),

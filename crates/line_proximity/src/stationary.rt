@@ -8,7 +8,7 @@ use root::nearest::Root;
 use shapes::vector::Vector;
 
 // The seconds at which it comes within the distance and leaves it, nothing, or refusal 1: the radicand has no root.
-#[derive(Drop)]
+#[derive(Clone, Copy)]
 pub enum Stay {
     Between(f64, f64),
     Nothing,

@@ -7,14 +7,14 @@ use shapes::waypoint::Leg;
 use times::time::{Span, TimePoint};
 
 // A place and a velocity.
-#[derive(Drop)]
+#[derive(Clone, Copy)]
 pub struct State {
     pub place: Vector,
     pub velocity: Vector,
 }
 
 // A leg at an instant: its state, that its times do not hold the instant, or refusal 7.
-#[derive(Drop)]
+#[derive(Clone, Copy)]
 pub enum Motion {
     At(State),
     Outside,

@@ -8,7 +8,7 @@ use shapes::waypoint::Leg;
 use times::time::TimePoint;
 
 // The squared distance less the limit, by its coefficients.
-#[derive(Drop)]
+#[derive(Clone, Copy)]
 pub struct Quadratic {
     pub a: f64,
     pub b: f64,
@@ -16,7 +16,7 @@ pub struct Quadratic {
 }
 
 // The quadratic of two legs, or a refusal and its number.
-#[derive(Drop)]
+#[derive(Clone, Copy)]
 pub enum Meeting {
     Of(Quadratic),
     Refused(u64),

@@ -22,7 +22,7 @@ use path_tests::trip::Trip;
 use times::time::{Duration, TimePoint};
 
 // How many actions a path has, with its pops and its hold; no path, with the pops; or a refusal and its number.
-#[derive(Drop)]
+#[derive(Clone, Copy)]
 pub enum Found {
     Path(usize, u64, Duration),
     Missing(u64),

@@ -9,7 +9,7 @@ use shapes::waypoint::Waypoint;
 use times::time::TimePoint;
 
 // Moving to a waypoint, or waiting for an obstacle until an instant.
-#[derive(Drop)]
+#[derive(Clone, Copy)]
 pub enum SafeAction {
     Move(Waypoint),
     Wait(usize, TimePoint),

@@ -18,7 +18,7 @@ use shapes::waypoint::Waypoint;
 use times::time::{Duration, Span, TimePoint};
 
 // The hold of a path, or a refusal and its number.
-#[derive(Drop)]
+#[derive(Clone, Copy)]
 pub enum Hold {
     Of(Duration),
     Refused(u64),

@@ -17,7 +17,7 @@ use path_tests::{tests, travel};
 use shapes::waypoint::Waypoint;
 
 // The pops made so far, and how many may be made.
-#[derive(Drop)]
+#[derive(Clone, Copy)]
 pub struct Pops {
     pub made: u64,
     pub budget: u64,

@@ -11,7 +11,7 @@ use root::nearest::Root;
 use times::time::{Duration, Span, TimePoint};
 
 // A contour, or a refusal and its number.
-#[derive(Drop)]
+#[derive(Clone, Copy)]
 pub enum Contour {
     Of(Duration),
     Refused(u64),

@@ -4,7 +4,7 @@ ghost use Rattle.path_search.specs.Links.{links_in, linked_to};
 ghost use Rattle.path_search.specs.Handed.{tried_to};
 
 // A chain was found; the hint's way to its parent is not safe; that way is safe, and no way to the hint is; or a refusal.
-#[derive(Drop)]
+#[derive(Clone, Copy)]
 pub enum Ending {
     Found,
     Blocked,
@@ -14,7 +14,7 @@ pub enum Ending {
 
 // How trying ended, and the pops made so far. A chain that was found stands in a list that the caller lends: the count of its
 // links, then they, hints by their index, the first to be waited at first.
-#[derive(Drop)]
+#[derive(Clone, Copy)]
 pub struct Tried {
     pub ending: Ending,
     pub pops: u64,

@@ -10,7 +10,7 @@ use shapes::waypoint::Waypoint;
 use times::time::Instant;
 
 // A waypoint, or a refusal and its number.
-#[derive(Drop)]
+#[derive(Clone, Copy)]
 pub enum Reached {
     At(Waypoint),
     Refused(u64),

@@ -3,7 +3,7 @@ use shapes::profile::CircularProfile;
 use shapes::waypoint::Leg;
 
 // Who goes, from where to where, and how fast.
-#[derive(Drop)]
+#[derive(Clone, Copy)]
 pub struct Trip {
     pub profile: CircularProfile,
     pub leg: Leg,

@@ -13,7 +13,7 @@ use shapes::waypoint::Leg;
 use times::time::{Duration, TimePoint};
 
 // How many paths and how many actions there are, or a refusal and its number.
-#[derive(Drop)]
+#[derive(Clone, Copy)]
 pub enum Paths {
     Of(usize, usize),
     Refused(u64),

@@ -12,7 +12,7 @@ use shapes::waypoint::Leg;
 use times::time::TimePoint;
 
 // A leg at an instant: its state, that it is nowhere then, or a refusal and its number.
-#[derive(Drop)]
+#[derive(Clone, Copy)]
 pub enum Whereabouts {
     At(State),
     Outside,

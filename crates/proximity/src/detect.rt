@@ -14,7 +14,7 @@ use shapes::waypoint::Leg;
 use times::time::{Instant, Span, TimePoint};
 
 // Never near, near from an instant on, near from one to another, or a refusal and its number.
-#[derive(Drop)]
+#[derive(Clone, Copy)]
 pub enum Proximity {
     Never,
     Enters(TimePoint),
@@ -23,7 +23,7 @@ pub enum Proximity {
 }
 
 // The entry of an answer that has one.
-#[derive(Drop)]
+#[derive(Clone, Copy)]
 pub enum Entry {
     At(TimePoint),
     Missing,

@@ -6,7 +6,7 @@ use crate::hex;
 use crate::hex::Word;
 
 // A call, what it was called with, and its answer: the number handed back, and the first word of the room.
-#[derive(Drop)]
+#[derive(Clone, Copy)]
 pub struct Answer {
     pub call: u64,
     pub first: u64,
@@ -15,7 +15,7 @@ pub struct Answer {
     pub word: u64,
 }
 
-#[derive(Drop)]
+#[derive(Clone, Copy)]
 pub enum Line {
     Is(Answer),
     Malformed,

@@ -6,7 +6,7 @@ ghost use Rattle.request_format.specs.Measured.{extent_of};
 use crate::bits;
 
 // How many bits a request takes, or that its counts are outside the table.
-#[derive(Drop)]
+#[derive(Clone, Copy)]
 pub enum Extent {
     Bits(usize),
     Uncounted,

@@ -9,7 +9,7 @@ ghost use Rattle.root.specs.Root.{least_units, IsRoot, root_of};
 use crate::{guess, trial};
 
 // The root, or refusal 1.
-#[derive(Drop)]
+#[derive(Clone, Copy)]
 pub enum Root {
     Of(f64),
     Refused,
@@ -51,7 +51,7 @@ fn whole_root(a: u64) -> u64
 }
 
 // A number as 53 digits, of which the first stands at 2^j.
-#[derive(Drop)]
+#[derive(Clone, Copy)]
 struct Digits {
     m: u64,
     j: u64,

@@ -9,7 +9,7 @@ use table::reading;
 use table_packing::packing;
 
 // The box of an obstacle, that it has none, or a refusal and its number.
-#[derive(Drop)]
+#[derive(Clone, Copy)]
 pub enum Hull {
     Of(BoundingBox),
     Missing,

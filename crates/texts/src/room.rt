@@ -4,7 +4,7 @@ ghost use Rattle.lent.specs.Outcome.{Refuses, wiped};
 ghost use Rattle.texts.specs.Room.{PutText, SettledText, Tells, told_number};
 
 // How long a text is, or a refusal and its number.
-#[derive(Drop)]
+#[derive(Clone, Copy)]
 pub enum Told {
     Text(usize),
     Refused(u64),

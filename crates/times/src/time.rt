@@ -4,22 +4,22 @@ ghost use Rattle.times.specs.Time.{is_exact, span_between, instant_after, later_
 ghost use Rattle.times.specs.Time.{instant_after_seconds, seconds_of, span_sum, span_of_seconds, instant_of_seconds};
 
 // An instant: nanoseconds since the start.
-#[derive(Drop)]
+#[derive(Clone, Copy)]
 pub struct TimePoint(pub i64);
 
 // A span: nanoseconds from one instant to another.
-#[derive(Drop)]
+#[derive(Clone, Copy)]
 pub struct Duration(pub i64);
 
 // An instant, or refusal 7.
-#[derive(Drop)]
+#[derive(Clone, Copy)]
 pub enum Instant {
     At(TimePoint),
     Strayed,
 }
 
 // A span, or refusal 7.
-#[derive(Drop)]
+#[derive(Clone, Copy)]
 pub enum Span {
     Of(Duration),
     Strayed,

@@ -5,15 +5,10 @@ use lib.Ieee
 use lib.Ieee.{binary64}
 use Rattle.times.specs.Time.{billion, seconds_of}
 use Rattle.number_words.proofs.ReadBack.{found_of}
-use Rattle.times.proofs.time.seconds_of.Statement.{statement}
-use Rattle.times.proofs.time.seconds_of.Tie as tie
+use Rattle.times.proofs.time.seconds_of.Goals as goal
 
-returns : tie.Need-returns
+pub returns : goal.returns
 unfolding seconds_of Ieee.of_int Ieee.of_bits
 returns c =
-    let s = c.before in
-    let rounded = found_of (Ieee.of_int binary64) s.args.ns s.ranges.ns c.nearest-i64-to-f64.ensures in
+    let rounded = found_of (Ieee.of_int binary64) c.args.ns c.ranges.ns c.nearest_i64_to_f64.ensures in
     ap (λ ns. Ieee.div binary64 ns billion) rounded
-
-pub seconds-of-spec : {M : Type 1} → statement M
-seconds-of-spec = tie.close (tie.spec (λ c κs. search rules) returns)

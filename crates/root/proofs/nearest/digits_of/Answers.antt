@@ -10,19 +10,18 @@ use Rattle.root.specs.Digits.{Spells}
 use Rattle.root.specs.Root.{least_units}
 use Rattle.root.proofs.Units.{units_is}
 use Rattle.root.proofs.Patterns.{low_value, high_value}
-use Rattle.root.proofs.nearest.digits_of.Statement.{statement}
-use Rattle.root.proofs.nearest.digits_of.Tie as tie
+use Rattle.root.proofs.nearest.digits_of.Goals as goal
 
-returns : tie.Need-returns
-returns c =
-    let b = c.before.before.args.b in
+pub returns-then-exponent-eq0 : goal.returns-then-exponent-eq0
+returns-then-exponent-eq0 c =
+    let b = c.args.b in
     let d = c.moved_up.ensures in
     let is : b % 2 ^ 52 ≡ least_units (of_bits binary64 b) = omega (arith, units_is (of_bits binary64 b) b (low_value b (omega arith))) in
     (subst (λ (X : ℕ). Spells X c.moved_up.result.m c.moved_up.result.j) is d.0, omega arith)
 
-returns-2 : tie.Need-returns-2
-returns-2 c =
-    let b = c.before.args.b in
+pub returns : goal.returns
+returns c =
+    let b = c.args.b in
     let k = b / 2 ^ 52 - 1 in
     let q = b % 2 ^ 52 + 2 ^ 52 in
     let parts : k * 2 ^ 52 + q ≡ b = omega arith in
@@ -30,7 +29,3 @@ returns-2 c =
     let v = high_value k q (omega arith) (omega arith) (omega arith) in
     let is : least_units (of_bits binary64 b) ≡ q * 2 ^ k = rw parts at (units_is (of_bits binary64 (k * 2 ^ 52 + q)) (q * 2 ^ k) v) in
     (record { value = rw (is, place, pow-add 2 k 52) (omega arith); least = omega arith; most = omega arith }, omega arith)
-
-pub digits-of-spec : {M : Type 1} → statement M
-digits-of-spec =
-    tie.close (tie.spec (λ c κs. search rules) returns (λ c. search rules) (λ c. search rules) returns-2)
