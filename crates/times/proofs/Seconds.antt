@@ -1,10 +1,10 @@
 -- Seconds and nanoseconds keep the order: what is later in the one is no earlier in the other, what is exact stays so, and
 -- a span is as many seconds one way as the other.
 -- Assumes nothing.
-use Rattle.std.proofs.Common.{◌≡◌, ℕ, suc, ◌^◌, true, not, T, ℤ, pos, negsuc, nat_abs, ◌≤ℤ◌, ap, ◌∙◌, arith, le→leb, leb-true}
+use Rattle.std.proofs.Common.{◌≡◌, refl, subst, ℕ, suc, ◌^◌, true, false, not, T, ℤ, pos, negsuc, nat_abs, ◌≤ℤ◌, ap, ◌∙◌, arith, le→leb, leb-true}
 use lib.Signed.{le_z_yes, ≤ℤ_refl}
 use lib.Ieee
-use lib.Ieee.{Float, binary64, le, is_nan}
+use lib.Ieee.{Float, fin, binary64, le, is_nan}
 use lib.Ieee.Bits.{is_true}
 use lib.Ieee.Scale.{finite}
 use Rattle.floats.specs.Constants.{nought}
@@ -85,9 +85,42 @@ pub span_not_below : (s : Float) (d : Duration) → span_of_seconds s ≡ S.Of d
 span_not_below s d p h = rw (span_converted s d p).number at (nanoseconds_not_below s h)
 
 -- Seconds of at most 2^53 ns are given back, for 2^53 ns come back as they were.
+most_is : most_seconds ≡ fin false 4835703278458517 (negsuc 28)
+unfolding seconds_of Ieee.of_int Ieee.div
+most_is = refl
+
+billion_is : billion ≡ fin false 1953125 (pos 9)
+unfolding Ieee.of_int
+billion_is = refl
+
+multiplied_back : Ieee.mul binary64 (fin false 4835703278458517 (negsuc 28)) (fin false 1953125 (pos 9)) ≡ fin false 1 (pos 53)
+unfolding Ieee.mul
+multiplied_back = refl
+
+two_to_53_is : two_to_53 ≡ fin false 1 (pos 53)
+unfolding Ieee.of_int
+two_to_53_is = refl
+
+-- 2^53 ns come back.
+most_back : Ieee.mul binary64 most_seconds billion ≡ two_to_53
+most_back = rw (most_is, billion_is, two_to_53_is) multiplied_back
+
+most_finite : T (finite most_seconds)
+unfolding seconds_of Ieee.of_int Ieee.div
+most_finite = tt
+
+billion_within : Within billion billion
+unfolding Ieee.of_int le
+billion_within = record { at_most = tt }
+
+billion_finite : T (finite billion)
+unfolding Ieee.of_int
+billion_finite = tt
+
 pub product_within : (s : Float) → Within most_seconds s → Within two_to_53 (product s)
-unfolding seconds_of Ieee.of_int Ieee.div Ieee.mul le
-product_within s h = within_mul binary64 {d = billion} h (record { at_most = tt }) tt tt
+product_within s h =
+    subst (λ (c : Float). Within c (product s)) most_back
+    (within_mul binary64 {d = billion} h billion_within most_finite billion_finite)
 
 pub span_given : (s : Float) → Within most_seconds s → span_of_seconds s ≡ S.Of (record { 0 = nanoseconds_of s })
 unfolding span_of_seconds

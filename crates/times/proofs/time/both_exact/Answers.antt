@@ -1,7 +1,6 @@
 -- `times::time::both_exact` meets its contract: it is the second number's test where the first one's holds.
 -- Assumes nothing.
-use Rattle.std.proofs.Common.{sym, ◌∙◌, rules}
-use borrow.Author.Tests.{not-true, not-false}
+use Rattle.std.proofs.Common.{sym, ◌∙◌}
 use Rattle.times.specs.Time.{is_exact}
 use Rattle.number_words.proofs.ReadBack.{found_of}
 use Rattle.times.proofs.time.both_exact.Goals as goal

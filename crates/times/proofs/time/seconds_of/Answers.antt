@@ -1,6 +1,6 @@
 -- `times::time::seconds_of` meets its contract: the code's 1e9 is the definition's.
 -- Assumes nothing.
-use Rattle.std.proofs.Common.{ap, rules}
+use Rattle.std.proofs.Common.{ap}
 use lib.Ieee
 use lib.Ieee.{binary64}
 use Rattle.times.specs.Time.{billion, seconds_of}

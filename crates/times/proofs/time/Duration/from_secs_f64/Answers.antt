@@ -31,7 +31,9 @@ short c = c.if-p.false
 pub truncating_f64_to_i64-requires : goal.truncating_f64_to_i64-requires
 unfolding Ieee.of_int Ieee.of_bits
 truncating_f64_to_i64-requires c =
-    can_be_cut _ (within_of_bounds two_to_53 (product c.args.seconds) (passed (above (goal.at.truncating_f64_to_i64-requires c).Then-p)) (passed (below (goal.at.truncating_f64_to_i64-requires c).Then-p-2)))
+    let at = goal.at.truncating_f64_to_i64-requires c in
+    let cut = can_be_cut _ (within_of_bounds two_to_53 (product c.args.seconds) (passed (above at.Then-p)) (passed (below at.Then-p-2))) in
+    record { lower_bound = cut.0; upper_bound = cut.1 }
 
 pub returns-then-p-2 : goal.returns-then-p-2
 unfolding span_of_seconds Ieee.of_int Ieee.of_bits

@@ -1,6 +1,5 @@
 -- `times::time::Duration::is_exact` meets its contract: it asks of the number of the span.
 -- Assumes nothing.
-use Rattle.std.proofs.Common.{rules}
 use Rattle.times.specs.Time.{is_exact}
 use Rattle.number_words.proofs.ReadBack.{found_of}
 use Rattle.times.proofs.time.Duration.is_exact.Goals as goal

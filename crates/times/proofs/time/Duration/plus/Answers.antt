@@ -1,7 +1,6 @@
 -- `times::time::Duration::plus` meets its contract: it finds of both numbers, and of their sum, whether they are exact.
 -- Assumes nothing.
-use Rattle.std.proofs.Common.{◌+ℤ◌, ◌∙◌, rules}
-use borrow.Author.Tests.{not-true, not-false}
+use Rattle.std.proofs.Common.{◌+ℤ◌, ◌∙◌}
 use Rattle.times.specs.Time.{span_sum}
 use Rattle.times.proofs.Exact.{sum_fits}
 use Rattle.times.proofs.Operands.{Operands, read_fits, result_back, one_out, decided}

@@ -1,6 +1,5 @@
 -- `times::time::TimePoint::as_secs_f64` meets its contract.
 -- Assumes nothing.
-use Rattle.std.proofs.Common.{rules}
 use Rattle.times.specs.Time.{seconds_of}
 use Rattle.number_words.proofs.ReadBack.{found_of}
 use Rattle.times.proofs.time.TimePoint.as_secs_f64.Goals as goal

@@ -1,6 +1,6 @@
 -- `times::time::TimePoint::from_secs_f64` meets its contract: it is the span's number, or the span's refusal.
 -- Assumes nothing.
-use Rattle.std.proofs.Common.{◌≡◌, sym, ◌∙◌, rules}
+use Rattle.std.proofs.Common.{◌≡◌, sym, ◌∙◌}
 use Rattle.times.specs.Time.{span_of_seconds, instant_of_seconds}
 use Rattle.number_words.proofs.ReadBack.{read_back}
 use Rattle.times.proofs.time.TimePoint.from_secs_f64.Goals as goal

@@ -1,6 +1,5 @@
 -- `times::time::TimePoint::is_exact` meets its contract: it asks of the number of the instant.
 -- Assumes nothing.
-use Rattle.std.proofs.Common.{rules}
 use Rattle.times.specs.Time.{is_exact}
 use Rattle.number_words.proofs.ReadBack.{found_of}
 use Rattle.times.proofs.time.TimePoint.is_exact.Goals as goal

@@ -1,6 +1,6 @@
 -- `times::time::TimePoint::max` meets its contract: the other where this one comes before it, else this one.
 -- Assumes nothing.
-use Rattle.std.proofs.Common.{sym, ◌∙◌, rules}
+use Rattle.std.proofs.Common.{sym, ◌∙◌}
 use Rattle.times.specs.Time.{later_of}
 use Rattle.times.proofs.time.TimePoint.max.Goals as goal
 

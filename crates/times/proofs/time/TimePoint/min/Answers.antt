@@ -1,6 +1,6 @@
 -- `times::time::TimePoint::min` meets its contract: the other where it comes before this one, else this one.
 -- Assumes nothing.
-use Rattle.std.proofs.Common.{sym, ◌∙◌, rules}
+use Rattle.std.proofs.Common.{sym, ◌∙◌}
 use Rattle.times.specs.Time.{earlier_of}
 use Rattle.times.proofs.time.TimePoint.min.Goals as goal
 

@@ -1,6 +1,6 @@
 -- `times::time::TimePoint::plus_secs_f64` meets its contract: the seconds' span, and the instant after it.
 -- Assumes nothing.
-use Rattle.std.proofs.Common.{◌≡◌, sym, ◌∙◌, rules}
+use Rattle.std.proofs.Common.{◌≡◌, sym, ◌∙◌}
 use Rattle.times.specs.Time.{span_of_seconds, instant_after_seconds}
 use Rattle.times.proofs.time.TimePoint.plus_secs_f64.Goals as goal
 use Rattle.times.proofs.time.TimePoint.plus_secs_f64.Goals.{After-from_secs_f64-span}

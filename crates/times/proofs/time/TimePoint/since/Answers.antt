@@ -1,7 +1,6 @@
 -- `times::time::TimePoint::since` meets its contract: it finds of both numbers, and of their difference, whether they are exact.
 -- Assumes nothing.
-use Rattle.std.proofs.Common.{◌-ℤ◌, ◌∙◌, rules}
-use borrow.Author.Tests.{not-true, not-false}
+use Rattle.std.proofs.Common.{◌-ℤ◌, ◌∙◌}
 use Rattle.times.specs.Time.{span_between}
 use Rattle.times.proofs.Exact.{difference_fits}
 use Rattle.times.proofs.Operands.{Operands, read_fits, result_back, one_out, decided}
