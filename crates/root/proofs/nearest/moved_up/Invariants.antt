@@ -1,10 +1,8 @@
 -- `root::nearest::moved_up` meets its contract: doubling the digits and lowering their place keep the number, and as long as there are
 -- fewer than 53 digits there is a place left to lower.
 -- Assumes nothing.
-use mathlib.Core.Path.{◌≡◌, ◌∙◌}
-use Prim.Native.Nat.{ℕ, zero, suc, ◌-◌, ◌*◌, ◌^◌, ◌≤◌, ◌<◌}
-use native.Mathlib.Nat.{pow-succ'}
-use native.Mathlib.Omega.{arith}
+use mathlib.Core.Path.{◌≡◌}
+use Prim.Native.Nat.{◌*◌, ◌^◌, ◌≤◌, ◌<◌}
 use Rattle.root.proofs.nearest.moved_up.Given as goal
 
 abbrev pub invariant-loop-m : goal.invariant-loop-m

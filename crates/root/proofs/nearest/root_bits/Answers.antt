@@ -1,29 +1,27 @@
 -- `root::nearest::root_bits` meets its contract: the number that `root_digits` is given, with 54 zeros, is the widened digits.
 -- Assumes nothing.
 use mathlib.Core.Path.{◌≡◌}
-use mathlib.Core.Logic.{⊎_elim}
 use Prim.Native.Nat.{◌*◌, ◌%◌, ◌^◌}
 use native.Mathlib.Omega.{arith}
-use borrow.Author.Rules.{rules}
 use lib.Ieee.{binary64, of_bits}
 use Rattle.root.specs.Digits.{paired}
 use Rattle.root.specs.Root.{least_units}
 use Rattle.root.proofs.WholeRoot.{whole_small}
 use Rattle.root.proofs.Spelling.{pattern_is}
 use Rattle.root.proofs.nearest.root_bits.Goals as goal
-use Rattle.root.proofs.nearest.root_bits.Goals.{Joined-j-eq1}
+use Rattle.root.proofs.nearest.root_bits.Goals.{Joined-j-eq1, then-j-eq1, else-j-eq1}
 
 -- One zero more stands behind the digits where their place is odd.
 given : (c : Joined-j-eq1) → c.if-j-eq1.a * 2 ^ 54 ≡ paired c.digits_of-d.result.m c.digits_of-d.result.j
 given c =
     let j = c.digits_of-d.result.j in
-    ⊎_elim
-    (λ w. let one : j % 2 ≡ 1 = omega (arith, w.0.taken) in rw (w.1, one) (omega arith))
-    (λ w. let none : j % 2 ≡ 0 = omega (arith, w.0.left) in rw (w.1, none))
-    c.if-j-eq1.branch
+    elim c.if-j-eq1.branch [
+      | then-j-eq1 w ↦ let one : j % 2 ≡ 1 = omega arith in rw (w.a-is, one) (omega arith)
+      | else-j-eq1 w ↦ let none : j % 2 ≡ 0 = omega arith in rw (w.a-is, none)
+    ]
 
 pub root_digits-requires : goal.root_digits-requires
-root_digits-requires c κs = ⊎_elim (λ w. omega arith) (λ w. omega arith) c.if-j-eq1.branch
+root_digits-requires c = elim c.if-j-eq1.branch [ then-j-eq1 w ↦ (omega arith, omega arith) | else-j-eq1 w ↦ (omega arith, omega arith) ]
 
 pub overflow_add-result-2 : goal.overflow_add-result-2
 overflow_add-result-2 c = omega (arith, whole_small 54 (c.if-j-eq1.a * 2 ^ 54), c.root_digits.ensures)

@@ -1,8 +1,7 @@
 -- `root::nearest::whole_root` meets its contract: r is always the whole root of the digits that came down, and in the end all of them did.
 -- Assumes nothing.
 use mathlib.Core.Path.{◌≡◌, ap, ◌∙◌}
-use mathlib.Core.Logic.{⊎_elim}
-use Prim.Native.Nat.{ℕ, ◌+◌, ◌-◌, ◌*◌, ◌/◌, ◌^◌, ◌≤◌, ◌<◌}
+use Prim.Native.Nat.{ℕ, ◌+◌, ◌*◌, ◌/◌, ◌^◌, ◌≤◌, ◌<◌}
 use native.Mathlib.Nat.{lt_of_lt_of_le, mul-lt-mul_of_pos_right, pow-suc}
 use native.Mathlib.Numerals.{add-one}
 use native.Mathlib.Omega.{arith}
@@ -10,7 +9,7 @@ use lib.Pow.{pow_pos, pow_mono}
 use Rattle.root.specs.Digits.{whole_root}
 use Rattle.root.proofs.WholeRoot.{one_whole, whole}
 use Rattle.root.proofs.nearest.whole_root.Goals as goal
-use Rattle.root.proofs.nearest.whole_root.Goals.{In-loop-i, Joined-r-over}
+use Rattle.root.proofs.nearest.whole_root.Goals.{In-loop-i, Joined-r-over, then-r-over, else-r-over}
 
 small : (c : In-loop-i) → c.loop-i.r < 2 ^ 54
 small c = lt_of_lt_of_le c.loop-i.invariant.3 (pow_mono c.loop-i.invariant.4)
@@ -63,10 +62,10 @@ came_down : (c : Joined-r-over) →
     let n = c.if-r-over in
     (n.r * n.r + n.over ≡ 4 * (l.r * l.r + l.over) + l.rest / 2 ^ 52) × (n.over ≤ 2 * n.r) × (n.r ≤ 2 * l.r + 1)
 came_down c =
-    ⊎_elim
-    (λ w. (rw (w.1, w.2) (omega arith), omega arith, omega arith))
-    (λ w. (rw (w.1, w.2) (omega arith), omega arith, omega arith))
-    c.if-r-over.branch
+    elim c.if-r-over.branch [
+      | then-r-over w ↦ (rw (w.r-is, w.over-is) (omega arith), omega arith, omega arith)
+      | else-r-over w ↦ (rw (w.r-is, w.over-is) (omega arith), omega arith, omega arith)
+    ]
 
 pub loop-i-preserved : goal.loop-i-preserved
 loop-i-preserved c =

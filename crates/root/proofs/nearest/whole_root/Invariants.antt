@@ -1,14 +1,7 @@
 -- `root::nearest::whole_root` meets its contract: r is always the whole root of the digits that came down, and in the end all of them did.
 -- Assumes nothing.
-use mathlib.Core.Path.{◌≡◌, ap, ◌∙◌}
-use mathlib.Core.Logic.{⊎_elim}
-use Prim.Native.Nat.{ℕ, ◌+◌, ◌-◌, ◌*◌, ◌/◌, ◌^◌, ◌≤◌, ◌<◌}
-use native.Mathlib.Nat.{lt_of_lt_of_le, mul-lt-mul_of_pos_right, pow-suc}
-use native.Mathlib.Numerals.{add-one}
-use native.Mathlib.Omega.{arith}
-use lib.Pow.{pow_pos, pow_mono}
-use Rattle.root.specs.Digits.{whole_root}
-use Rattle.root.proofs.WholeRoot.{one_whole, whole}
+use mathlib.Core.Path.{◌≡◌}
+use Prim.Native.Nat.{◌+◌, ◌-◌, ◌*◌, ◌^◌, ◌≤◌, ◌<◌}
 use Rattle.root.proofs.nearest.whole_root.Given as goal
 
 abbrev pub invariant-loop-i : goal.invariant-loop-i

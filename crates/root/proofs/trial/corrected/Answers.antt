@@ -5,7 +5,6 @@ use Prim.Native.Nat.{ℕ, zero, suc, ◌+◌, ◌-◌, ◌*◌, ◌≤◌, ◌<�
 use native.Mathlib.Omega.{arith}
 use Rattle.root.specs.Trial.{IsNearest}
 use Rattle.root.proofs.Trials.{tried, none_below, none_above}
-use borrow.Author.Rules.{rules}
 use Rattle.root.proofs.trial.corrected.Goals as goal
 
 -- Where the guess is too high by one.

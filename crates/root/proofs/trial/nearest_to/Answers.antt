@@ -5,7 +5,6 @@ use Prim.Native.Nat.{◌*◌, ◌/◌, ◌%◌, ◌^◌}
 use native.Mathlib.Omega.{arith}
 use Rattle.root.proofs.Trials.{none_below, none_above}
 use Rattle.root.proofs.Cut.{Parts, parts, square_is}
-use borrow.Author.Rules.{rules}
 use Rattle.root.proofs.trial.nearest_to.Goals as goal
 use Rattle.root.proofs.trial.nearest_to.Goals.{Start}
 
@@ -42,7 +41,7 @@ pub overflow_add-lower-2 : goal.overflow_add-lower-2
 overflow_add-lower-2 c = omega (arith, (cut (goal.at.overflow_add-lower-2 c).Start).lower)
 
 pub corrected-requires : goal.corrected-requires
-corrected-requires c κs = (c.requires.1, omega arith, omega (arith, (cut (goal.at.corrected-requires c).Start).lower))
+corrected-requires c = (c.requires.1, omega arith, omega (arith, (cut (goal.at.corrected-requires c).Start).lower))
 
 pub returns : goal.returns
 returns c =
