@@ -1,7 +1,6 @@
 // The refusals by their names (docs/RULES.md, section 4). A refusal is its number and nothing else.
 #![tactic(auto)]
 
-
 // A value is outside the table, lent hints are not ranked, or a number has no root (RULES 4.1).
 pub const NUMBER: u64 = 1;
 
