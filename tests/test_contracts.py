@@ -18,10 +18,10 @@ HOUSE = {
     "crates.txt": CRATES,
     "crates/settling/src/lib.rt": "// The claim.\n",
     "crates/lists/src/lib.rt": "// Lists.\npub mod words;\n",
-    "crates/lists/src/words.rt": "// Words.\npub fn hand_over(out: &mut [u64]) -> u64\n    ensures { λ r. ⌜ r ≡ 1 ⌝ }\n{}\n\n"
-    "fn own() {}\n\nimpl Word {\n    pub fn of_two(self) -> u64\n        ensures one { λ r. ⌜ r ≡ 1 ⌝ }\n"
-    "        ensures two { λ r. ⌜ r ≡ 1 ⌝ }\n    {\n        1\n    }\n}\n",
-    "crates/plan/src/main.rt": "// A program.\npub fn reply() -> u64\n    ensures { λ r. ⌜ r ≡ 1 ⌝ }\n{\n    1\n}\n",
+    "crates/lists/src/words.rt": "// Words.\npub fn hand_over(out: &mut [u64]) -> u64\n    ensures { result ≡ 1 }\n{}\n\n"
+    "fn own() {}\n\nimpl Word {\n    pub fn of_two(self) -> u64\n        ensures one { result ≡ 1 }\n"
+    "        ensures two { result ≡ 1 }\n    {\n        1\n    }\n}\n",
+    "crates/plan/src/main.rt": "// A program.\npub fn reply() -> u64\n    ensures { result ≡ 1 }\n{\n    1\n}\n",
     "crates/contracts/src/lib.rt": "// Theorems.\n",
 }
 PUBLIC = ["lists::words::hand_over", "lists::words::Word::of_two"]
@@ -58,12 +58,12 @@ class Contracts(unittest.TestCase):
     def test_each_function_has_a_theorem(self):
         self.assertEqual(self.said(), (0, ["no second answer: 3 functions of 2 crates, a theorem for each"]))
         text = (self.root / "crates/contracts/proofs/lists.antt").read_text(encoding="utf-8")
-        self.assertIn("use Rattle·lists.proofs.words.Word.of_two.Met as words-Word-of-two-met\n", text)
-        self.assertIn("Determined words-hand-over-symbol.routine words-hand-over.ended (λ M. words-hand-over.clauses)\n", text)
-        self.assertIn("by-clause 𝓤 words-hand-over.ended", text)
-        self.assertIn("by-clauses 𝓤 words-Word-of-two.ended", text)
+        self.assertIn("use Rattle.lists.proofs.words.Word.of_two.Met as words_word_of_two_met\n", text)
+        self.assertIn("Determined words_hand_over_symbol.code words_hand_over_symbol.name words_hand_over.ended (λ M 𝓤. words_hand_over.clauses)\n", text)
+        self.assertIn("by_clause 𝓤 words_hand_over.ended", text)
+        self.assertIn("by_clauses 𝓤 words_word_of_two.ended", text)
         own = (self.root / "crates/plan/proofs/Public.antt").read_text(encoding="utf-8")
-        self.assertIn("use Rattle·plan·proofs.proofs.reply as reply\n", own)
+        self.assertIn("use Rattle.plan.specs.contracts.reply as reply\n", own)
         self.assertEqual(self.said("--check")[0], 0)
         self.assertEqual(self.said("--built")[0], 0)
 
@@ -113,7 +113,7 @@ class Contracts(unittest.TestCase):
     def test_the_list_of_theorems(self):
         listed = self.said("--list")[1]
         self.assertEqual(len(listed), 3)
-        self.assertIn("plan::reply: reply-determined of crates/plan/proofs/Public.antt", listed)
+        self.assertIn("plan::reply: reply_determined of crates/plan/proofs/Public.antt", listed)
 
     def test_a_file_of_no_crate(self):
         self.write("crates/contracts/proofs/gone.antt", "-- Nothing.\n")

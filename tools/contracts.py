@@ -32,7 +32,9 @@ IMPL = re.compile(r"^impl (\w+)[^\n]*\{\n(.*?)^\}", re.M | re.S)
 # The clauses up to the next function are counted. A wrong count costs the proof, and nothing else.
 FUNCTION = re.compile(r"\bfn\s")
 CLAUSE = re.compile(r"\bensures\b")
-BY = {1: "by-clause", 2: "by-clauses"}
+BY = {1: "by_clause", 2: "by_clauses"}
+# A word of a type's name, as `Time` and `Point` of `TimePoint`.
+INSIDE = re.compile(r"(?<=[a-z0-9])(?=[A-Z])")
 
 
 class Function(NamedTuple):
@@ -50,16 +52,22 @@ class Function(NamedTuple):
 
     @property
     def short(self):
-        """Its name in the prover, where `_` stands for an argument."""
-        return "-".join(self.path).replace("_", "-")
+        """Its name in the prover."""
+        return INSIDE.sub("_", "_".join(self.path)).lower()
 
     @property
     def theorem(self):
-        return f"{self.short}-determined"
+        return f"{self.short}_determined"
 
-    def module(self, own):
-        """What the toolchain makes of it; a program has nothing that other crates see, and its theorems stand in itself."""
-        return f"Rattle·{self.crate}{'·proofs' if own else ''}.proofs.{'.'.join(self.path)}"
+    @property
+    def contract(self):
+        """The contract that the toolchain makes of its clauses."""
+        return f"Rattle.{self.crate}.specs.contracts.{'.'.join(self.path)}"
+
+    @property
+    def proved(self):
+        """What the toolchain makes of its code."""
+        return f"Rattle.{self.crate}.proofs.{'.'.join(self.path)}"
 
 
 class Contracts:
@@ -96,13 +104,14 @@ def theorem(function):
     """The theorem of one function, and its proof."""
     name = function.short
     return f"""
-pub {function.theorem} : Determined {name}-symbol.routine {name}.ended (λ M. {name}.clauses)
+pub {function.theorem} :
+    Determined {name}_symbol.code {name}_symbol.name {name}.ended (λ M 𝓤. {name}.clauses)
 {function.theorem} = record {{
-  met = λ M. {name}-met.met;
+  met = λ M. {name}_met.met;
   kept = refl;
-  free = λ M 𝓤 H A mem run κs a. (tt, id⊢ 𝓤 (emp 𝓤));
-  one = λ M 𝓤 H A mem run κs a g g' r r' left left' s s'.
-      {BY[function.clauses]} 𝓤 {name}.ended κs a r r' left left' (λ p q. (search one-answer, search one-answer)) s s';
+  free = λ M 𝓤 𝓛 mem run κs a. (tt, id⊢ 𝓤 (emp 𝓤));
+  one = λ M 𝓤 𝓛 mem run κs a g g' r r' left left' s s'.
+      {BY[function.clauses]} 𝓤 {name}.ended κs a r r' left left' (λ p q. (search one_answer, search one_answer)) s s';
 }}
 """
 
@@ -113,12 +122,12 @@ def page(crate, functions, own=False):
     lines = [f"-- Each public function of {crate} has one answer and one lent memory. tools/contracts.py writes this file."]
     lines += ["-- Assumes nothing.", "use mathlib.Core.Path.{refl}", "use base.Logic.{id⊢, emp}"]
     for function in functions:
-        name, module = function.short, function.module(own)
-        lines += [f"use {module} as {name}", f"use {module}.Symbol as {name}-symbol", f"use {module}.Met as {name}-met"]
-    specs, proofs = ("·specs.specs", "·proofs.proofs") if crate == CLAIM else (".specs", ".proofs")
-    where = f"{CLAIM}{proofs}.Facts" if own else f"{CRATE}·proofs.proofs.Rules"
-    lines += [f"use Rattle·{CLAIM}{specs}.Determined.{{Determined}}"]
-    lines += [f"use Rattle·{CLAIM}{proofs}.Facts.{{{lemmas}}}", f"use Rattle·{where}.{{one-answer}}"]
+        name, proved = function.short, function.proved
+        lines += [f"use {function.contract} as {name}"]
+        lines += [f"use {proved}.Symbol as {name}_symbol", f"use {proved}.Met as {name}_met"]
+    where = f"{CLAIM}.proofs.Facts" if own else f"{CRATE}.proofs.Rules"
+    lines += [f"use Rattle.{CLAIM}.specs.Determined.{{Determined}}"]
+    lines += [f"use Rattle.{CLAIM}.proofs.Facts.{{{lemmas}}}", f"use Rattle.{where}.{{one_answer}}"]
     return "\n".join(lines) + "\n" + "".join(theorem(function) for function in functions)
 
 

@@ -2,90 +2,97 @@
 -- Assumes nothing.
 use mathlib.Core.Path.{refl}
 use base.Logic.{id⊢, emp}
-use Rattle.hint_list.specs.contracts.entries.count_of as entries-count-of
-use Rattle.hint_list.proofs.entries.count_of.Symbol as entries-count-of-symbol
-use Rattle.hint_list.proofs.entries.count_of.Met as entries-count-of-met
-use Rattle.hint_list.specs.contracts.entries.hint_at as entries-hint-at
-use Rattle.hint_list.proofs.entries.hint_at.Symbol as entries-hint-at-symbol
-use Rattle.hint_list.proofs.entries.hint_at.Met as entries-hint-at-met
-use Rattle.hint_list.specs.contracts.entries.put_hint as entries-put-hint
-use Rattle.hint_list.proofs.entries.put_hint.Symbol as entries-put-hint-symbol
-use Rattle.hint_list.proofs.entries.put_hint.Met as entries-put-hint-met
-use Rattle.hint_list.specs.contracts.entries.refuse as entries-refuse
-use Rattle.hint_list.proofs.entries.refuse.Symbol as entries-refuse-symbol
-use Rattle.hint_list.proofs.entries.refuse.Met as entries-refuse-met
-use Rattle.hint_list.specs.contracts.entries.with_hint as entries-with-hint
-use Rattle.hint_list.proofs.entries.with_hint.Symbol as entries-with-hint-symbol
-use Rattle.hint_list.proofs.entries.with_hint.Met as entries-with-hint-met
-use Rattle.hint_list.specs.contracts.entries.with_wait as entries-with-wait
-use Rattle.hint_list.proofs.entries.with_wait.Symbol as entries-with-wait-symbol
-use Rattle.hint_list.proofs.entries.with_wait.Met as entries-with-wait-met
-use Rattle.hint_list.specs.contracts.hint.is_placed as hint-is-placed
-use Rattle.hint_list.proofs.hint.is_placed.Symbol as hint-is-placed-symbol
-use Rattle.hint_list.proofs.hint.is_placed.Met as hint-is-placed-met
+use Rattle.hint_list.specs.contracts.entries.count_of as entries_count_of
+use Rattle.hint_list.proofs.entries.count_of.Symbol as entries_count_of_symbol
+use Rattle.hint_list.proofs.entries.count_of.Met as entries_count_of_met
+use Rattle.hint_list.specs.contracts.entries.hint_at as entries_hint_at
+use Rattle.hint_list.proofs.entries.hint_at.Symbol as entries_hint_at_symbol
+use Rattle.hint_list.proofs.entries.hint_at.Met as entries_hint_at_met
+use Rattle.hint_list.specs.contracts.entries.put_hint as entries_put_hint
+use Rattle.hint_list.proofs.entries.put_hint.Symbol as entries_put_hint_symbol
+use Rattle.hint_list.proofs.entries.put_hint.Met as entries_put_hint_met
+use Rattle.hint_list.specs.contracts.entries.refuse as entries_refuse
+use Rattle.hint_list.proofs.entries.refuse.Symbol as entries_refuse_symbol
+use Rattle.hint_list.proofs.entries.refuse.Met as entries_refuse_met
+use Rattle.hint_list.specs.contracts.entries.with_hint as entries_with_hint
+use Rattle.hint_list.proofs.entries.with_hint.Symbol as entries_with_hint_symbol
+use Rattle.hint_list.proofs.entries.with_hint.Met as entries_with_hint_met
+use Rattle.hint_list.specs.contracts.entries.with_wait as entries_with_wait
+use Rattle.hint_list.proofs.entries.with_wait.Symbol as entries_with_wait_symbol
+use Rattle.hint_list.proofs.entries.with_wait.Met as entries_with_wait_met
+use Rattle.hint_list.specs.contracts.hint.is_placed as hint_is_placed
+use Rattle.hint_list.proofs.hint.is_placed.Symbol as hint_is_placed_symbol
+use Rattle.hint_list.proofs.hint.is_placed.Met as hint_is_placed_met
 use Rattle.settling.specs.Determined.{Determined}
 use Rattle.settling.proofs.Facts.{by_clause}
 use Rattle.contracts.proofs.Rules.{one_answer}
 
-pub entries_count_of_determined : Determined entries-count-of-symbol.routine entries-count-of.ended (λ M. entries-count-of.clauses)
+pub entries_count_of_determined :
+    Determined entries_count_of_symbol.code entries_count_of_symbol.name entries_count_of.ended (λ M 𝓤. entries_count_of.clauses)
 entries_count_of_determined = record {
-  met = λ M. entries-count-of-met.met;
+  met = λ M. entries_count_of_met.met;
   kept = refl;
   free = λ M 𝓤 𝓛 mem run κs a. (tt, id⊢ 𝓤 (emp 𝓤));
   one = λ M 𝓤 𝓛 mem run κs a g g' r r' left left' s s'.
-      by_clause 𝓤 entries-count-of.ended κs a r r' left left' (λ p q. (search one_answer, search one_answer)) s s';
+      by_clause 𝓤 entries_count_of.ended κs a r r' left left' (λ p q. (search one_answer, search one_answer)) s s';
 }
 
-pub entries_hint_at_determined : Determined entries-hint-at-symbol.routine entries-hint-at.ended (λ M. entries-hint-at.clauses)
+pub entries_hint_at_determined :
+    Determined entries_hint_at_symbol.code entries_hint_at_symbol.name entries_hint_at.ended (λ M 𝓤. entries_hint_at.clauses)
 entries_hint_at_determined = record {
-  met = λ M. entries-hint-at-met.met;
+  met = λ M. entries_hint_at_met.met;
   kept = refl;
   free = λ M 𝓤 𝓛 mem run κs a. (tt, id⊢ 𝓤 (emp 𝓤));
   one = λ M 𝓤 𝓛 mem run κs a g g' r r' left left' s s'.
-      by_clause 𝓤 entries-hint-at.ended κs a r r' left left' (λ p q. (search one_answer, search one_answer)) s s';
+      by_clause 𝓤 entries_hint_at.ended κs a r r' left left' (λ p q. (search one_answer, search one_answer)) s s';
 }
 
-pub entries_put_hint_determined : Determined entries-put-hint-symbol.routine entries-put-hint.ended (λ M. entries-put-hint.clauses)
+pub entries_put_hint_determined :
+    Determined entries_put_hint_symbol.code entries_put_hint_symbol.name entries_put_hint.ended (λ M 𝓤. entries_put_hint.clauses)
 entries_put_hint_determined = record {
-  met = λ M. entries-put-hint-met.met;
+  met = λ M. entries_put_hint_met.met;
   kept = refl;
   free = λ M 𝓤 𝓛 mem run κs a. (tt, id⊢ 𝓤 (emp 𝓤));
   one = λ M 𝓤 𝓛 mem run κs a g g' r r' left left' s s'.
-      by_clause 𝓤 entries-put-hint.ended κs a r r' left left' (λ p q. (search one_answer, search one_answer)) s s';
+      by_clause 𝓤 entries_put_hint.ended κs a r r' left left' (λ p q. (search one_answer, search one_answer)) s s';
 }
 
-pub entries_refuse_determined : Determined entries-refuse-symbol.routine entries-refuse.ended (λ M. entries-refuse.clauses)
+pub entries_refuse_determined :
+    Determined entries_refuse_symbol.code entries_refuse_symbol.name entries_refuse.ended (λ M 𝓤. entries_refuse.clauses)
 entries_refuse_determined = record {
-  met = λ M. entries-refuse-met.met;
+  met = λ M. entries_refuse_met.met;
   kept = refl;
   free = λ M 𝓤 𝓛 mem run κs a. (tt, id⊢ 𝓤 (emp 𝓤));
   one = λ M 𝓤 𝓛 mem run κs a g g' r r' left left' s s'.
-      by_clause 𝓤 entries-refuse.ended κs a r r' left left' (λ p q. (search one_answer, search one_answer)) s s';
+      by_clause 𝓤 entries_refuse.ended κs a r r' left left' (λ p q. (search one_answer, search one_answer)) s s';
 }
 
-pub entries_with_hint_determined : Determined entries-with-hint-symbol.routine entries-with-hint.ended (λ M. entries-with-hint.clauses)
+pub entries_with_hint_determined :
+    Determined entries_with_hint_symbol.code entries_with_hint_symbol.name entries_with_hint.ended (λ M 𝓤. entries_with_hint.clauses)
 entries_with_hint_determined = record {
-  met = λ M. entries-with-hint-met.met;
+  met = λ M. entries_with_hint_met.met;
   kept = refl;
   free = λ M 𝓤 𝓛 mem run κs a. (tt, id⊢ 𝓤 (emp 𝓤));
   one = λ M 𝓤 𝓛 mem run κs a g g' r r' left left' s s'.
-      by_clause 𝓤 entries-with-hint.ended κs a r r' left left' (λ p q. (search one_answer, search one_answer)) s s';
+      by_clause 𝓤 entries_with_hint.ended κs a r r' left left' (λ p q. (search one_answer, search one_answer)) s s';
 }
 
-pub entries_with_wait_determined : Determined entries-with-wait-symbol.routine entries-with-wait.ended (λ M. entries-with-wait.clauses)
+pub entries_with_wait_determined :
+    Determined entries_with_wait_symbol.code entries_with_wait_symbol.name entries_with_wait.ended (λ M 𝓤. entries_with_wait.clauses)
 entries_with_wait_determined = record {
-  met = λ M. entries-with-wait-met.met;
+  met = λ M. entries_with_wait_met.met;
   kept = refl;
   free = λ M 𝓤 𝓛 mem run κs a. (tt, id⊢ 𝓤 (emp 𝓤));
   one = λ M 𝓤 𝓛 mem run κs a g g' r r' left left' s s'.
-      by_clause 𝓤 entries-with-wait.ended κs a r r' left left' (λ p q. (search one_answer, search one_answer)) s s';
+      by_clause 𝓤 entries_with_wait.ended κs a r r' left left' (λ p q. (search one_answer, search one_answer)) s s';
 }
 
-pub hint_is_placed_determined : Determined hint-is-placed-symbol.routine hint-is-placed.ended (λ M. hint-is-placed.clauses)
+pub hint_is_placed_determined :
+    Determined hint_is_placed_symbol.code hint_is_placed_symbol.name hint_is_placed.ended (λ M 𝓤. hint_is_placed.clauses)
 hint_is_placed_determined = record {
-  met = λ M. hint-is-placed-met.met;
+  met = λ M. hint_is_placed_met.met;
   kept = refl;
   free = λ M 𝓤 𝓛 mem run κs a. (tt, id⊢ 𝓤 (emp 𝓤));
   one = λ M 𝓤 𝓛 mem run κs a g g' r r' left left' s s'.
-      by_clause 𝓤 hint-is-placed.ended κs a r r' left left' (λ p q. (search one_answer, search one_answer)) s s';
+      by_clause 𝓤 hint_is_placed.ended κs a r r' left left' (λ p q. (search one_answer, search one_answer)) s s';
 }

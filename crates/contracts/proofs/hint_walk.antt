@@ -2,30 +2,32 @@
 -- Assumes nothing.
 use mathlib.Core.Path.{refl}
 use base.Logic.{id⊢, emp}
-use Rattle.hint_walk.specs.contracts.leg_hints.with_leg as leg-hints-with-leg
-use Rattle.hint_walk.proofs.leg_hints.with_leg.Symbol as leg-hints-with-leg-symbol
-use Rattle.hint_walk.proofs.leg_hints.with_leg.Met as leg-hints-with-leg-met
-use Rattle.hint_walk.specs.contracts.walk.compute_wait_hints as walk-compute-wait-hints
-use Rattle.hint_walk.proofs.walk.compute_wait_hints.Symbol as walk-compute-wait-hints-symbol
-use Rattle.hint_walk.proofs.walk.compute_wait_hints.Met as walk-compute-wait-hints-met
+use Rattle.hint_walk.specs.contracts.leg_hints.with_leg as leg_hints_with_leg
+use Rattle.hint_walk.proofs.leg_hints.with_leg.Symbol as leg_hints_with_leg_symbol
+use Rattle.hint_walk.proofs.leg_hints.with_leg.Met as leg_hints_with_leg_met
+use Rattle.hint_walk.specs.contracts.walk.compute_wait_hints as walk_compute_wait_hints
+use Rattle.hint_walk.proofs.walk.compute_wait_hints.Symbol as walk_compute_wait_hints_symbol
+use Rattle.hint_walk.proofs.walk.compute_wait_hints.Met as walk_compute_wait_hints_met
 use Rattle.settling.specs.Determined.{Determined}
 use Rattle.settling.proofs.Facts.{by_clause}
 use Rattle.contracts.proofs.Rules.{one_answer}
 
-pub leg_hints_with_leg_determined : Determined leg-hints-with-leg-symbol.routine leg-hints-with-leg.ended (λ M. leg-hints-with-leg.clauses)
+pub leg_hints_with_leg_determined :
+    Determined leg_hints_with_leg_symbol.code leg_hints_with_leg_symbol.name leg_hints_with_leg.ended (λ M 𝓤. leg_hints_with_leg.clauses)
 leg_hints_with_leg_determined = record {
-  met = λ M. leg-hints-with-leg-met.met;
+  met = λ M. leg_hints_with_leg_met.met;
   kept = refl;
   free = λ M 𝓤 𝓛 mem run κs a. (tt, id⊢ 𝓤 (emp 𝓤));
   one = λ M 𝓤 𝓛 mem run κs a g g' r r' left left' s s'.
-      by_clause 𝓤 leg-hints-with-leg.ended κs a r r' left left' (λ p q. (search one_answer, search one_answer)) s s';
+      by_clause 𝓤 leg_hints_with_leg.ended κs a r r' left left' (λ p q. (search one_answer, search one_answer)) s s';
 }
 
-pub walk_compute_wait_hints_determined : Determined walk-compute-wait-hints-symbol.routine walk-compute-wait-hints.ended (λ M. walk-compute-wait-hints.clauses)
+pub walk_compute_wait_hints_determined :
+    Determined walk_compute_wait_hints_symbol.code walk_compute_wait_hints_symbol.name walk_compute_wait_hints.ended (λ M 𝓤. walk_compute_wait_hints.clauses)
 walk_compute_wait_hints_determined = record {
-  met = λ M. walk-compute-wait-hints-met.met;
+  met = λ M. walk_compute_wait_hints_met.met;
   kept = refl;
   free = λ M 𝓤 𝓛 mem run κs a. (tt, id⊢ 𝓤 (emp 𝓤));
   one = λ M 𝓤 𝓛 mem run κs a g g' r r' left left' s s'.
-      by_clause 𝓤 walk-compute-wait-hints.ended κs a r r' left left' (λ p q. (search one_answer, search one_answer)) s s';
+      by_clause 𝓤 walk_compute_wait_hints.ended κs a r r' left left' (λ p q. (search one_answer, search one_answer)) s s';
 }

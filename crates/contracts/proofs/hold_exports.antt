@@ -2,42 +2,45 @@
 -- Assumes nothing.
 use mathlib.Core.Path.{refl}
 use base.Logic.{id⊢, emp}
-use Rattle.hold_exports.specs.contracts.hold_calls.igelbert_holds_begin as hold-calls-igelbert-holds-begin
-use Rattle.hold_exports.proofs.hold_calls.igelbert_holds_begin.Symbol as hold-calls-igelbert-holds-begin-symbol
-use Rattle.hold_exports.proofs.hold_calls.igelbert_holds_begin.Met as hold-calls-igelbert-holds-begin-met
-use Rattle.hold_exports.specs.contracts.hold_calls.igelbert_holds_feed as hold-calls-igelbert-holds-feed
-use Rattle.hold_exports.proofs.hold_calls.igelbert_holds_feed.Symbol as hold-calls-igelbert-holds-feed-symbol
-use Rattle.hold_exports.proofs.hold_calls.igelbert_holds_feed.Met as hold-calls-igelbert-holds-feed-met
-use Rattle.hold_exports.specs.contracts.hold_calls.igelbert_holds_finish as hold-calls-igelbert-holds-finish
-use Rattle.hold_exports.proofs.hold_calls.igelbert_holds_finish.Symbol as hold-calls-igelbert-holds-finish-symbol
-use Rattle.hold_exports.proofs.hold_calls.igelbert_holds_finish.Met as hold-calls-igelbert-holds-finish-met
+use Rattle.hold_exports.specs.contracts.hold_calls.igelbert_holds_begin as hold_calls_igelbert_holds_begin
+use Rattle.hold_exports.proofs.hold_calls.igelbert_holds_begin.Symbol as hold_calls_igelbert_holds_begin_symbol
+use Rattle.hold_exports.proofs.hold_calls.igelbert_holds_begin.Met as hold_calls_igelbert_holds_begin_met
+use Rattle.hold_exports.specs.contracts.hold_calls.igelbert_holds_feed as hold_calls_igelbert_holds_feed
+use Rattle.hold_exports.proofs.hold_calls.igelbert_holds_feed.Symbol as hold_calls_igelbert_holds_feed_symbol
+use Rattle.hold_exports.proofs.hold_calls.igelbert_holds_feed.Met as hold_calls_igelbert_holds_feed_met
+use Rattle.hold_exports.specs.contracts.hold_calls.igelbert_holds_finish as hold_calls_igelbert_holds_finish
+use Rattle.hold_exports.proofs.hold_calls.igelbert_holds_finish.Symbol as hold_calls_igelbert_holds_finish_symbol
+use Rattle.hold_exports.proofs.hold_calls.igelbert_holds_finish.Met as hold_calls_igelbert_holds_finish_met
 use Rattle.settling.specs.Determined.{Determined}
 use Rattle.settling.proofs.Facts.{by_clause}
 use Rattle.contracts.proofs.Rules.{one_answer}
 
-pub hold_calls_igelbert_holds_begin_determined : Determined hold-calls-igelbert-holds-begin-symbol.routine hold-calls-igelbert-holds-begin.ended (λ M. hold-calls-igelbert-holds-begin.clauses)
+pub hold_calls_igelbert_holds_begin_determined :
+    Determined hold_calls_igelbert_holds_begin_symbol.code hold_calls_igelbert_holds_begin_symbol.name hold_calls_igelbert_holds_begin.ended (λ M 𝓤. hold_calls_igelbert_holds_begin.clauses)
 hold_calls_igelbert_holds_begin_determined = record {
-  met = λ M. hold-calls-igelbert-holds-begin-met.met;
+  met = λ M. hold_calls_igelbert_holds_begin_met.met;
   kept = refl;
   free = λ M 𝓤 𝓛 mem run κs a. (tt, id⊢ 𝓤 (emp 𝓤));
   one = λ M 𝓤 𝓛 mem run κs a g g' r r' left left' s s'.
-      by_clause 𝓤 hold-calls-igelbert-holds-begin.ended κs a r r' left left' (λ p q. (search one_answer, search one_answer)) s s';
+      by_clause 𝓤 hold_calls_igelbert_holds_begin.ended κs a r r' left left' (λ p q. (search one_answer, search one_answer)) s s';
 }
 
-pub hold_calls_igelbert_holds_feed_determined : Determined hold-calls-igelbert-holds-feed-symbol.routine hold-calls-igelbert-holds-feed.ended (λ M. hold-calls-igelbert-holds-feed.clauses)
+pub hold_calls_igelbert_holds_feed_determined :
+    Determined hold_calls_igelbert_holds_feed_symbol.code hold_calls_igelbert_holds_feed_symbol.name hold_calls_igelbert_holds_feed.ended (λ M 𝓤. hold_calls_igelbert_holds_feed.clauses)
 hold_calls_igelbert_holds_feed_determined = record {
-  met = λ M. hold-calls-igelbert-holds-feed-met.met;
+  met = λ M. hold_calls_igelbert_holds_feed_met.met;
   kept = refl;
   free = λ M 𝓤 𝓛 mem run κs a. (tt, id⊢ 𝓤 (emp 𝓤));
   one = λ M 𝓤 𝓛 mem run κs a g g' r r' left left' s s'.
-      by_clause 𝓤 hold-calls-igelbert-holds-feed.ended κs a r r' left left' (λ p q. (search one_answer, search one_answer)) s s';
+      by_clause 𝓤 hold_calls_igelbert_holds_feed.ended κs a r r' left left' (λ p q. (search one_answer, search one_answer)) s s';
 }
 
-pub hold_calls_igelbert_holds_finish_determined : Determined hold-calls-igelbert-holds-finish-symbol.routine hold-calls-igelbert-holds-finish.ended (λ M. hold-calls-igelbert-holds-finish.clauses)
+pub hold_calls_igelbert_holds_finish_determined :
+    Determined hold_calls_igelbert_holds_finish_symbol.code hold_calls_igelbert_holds_finish_symbol.name hold_calls_igelbert_holds_finish.ended (λ M 𝓤. hold_calls_igelbert_holds_finish.clauses)
 hold_calls_igelbert_holds_finish_determined = record {
-  met = λ M. hold-calls-igelbert-holds-finish-met.met;
+  met = λ M. hold_calls_igelbert_holds_finish_met.met;
   kept = refl;
   free = λ M 𝓤 𝓛 mem run κs a. (tt, id⊢ 𝓤 (emp 𝓤));
   one = λ M 𝓤 𝓛 mem run κs a g g' r r' left left' s s'.
-      by_clause 𝓤 hold-calls-igelbert-holds-finish.ended κs a r r' left left' (λ p q. (search one_answer, search one_answer)) s s';
+      by_clause 𝓤 hold_calls_igelbert_holds_finish.ended κs a r r' left left' (λ p q. (search one_answer, search one_answer)) s s';
 }

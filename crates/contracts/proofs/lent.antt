@@ -2,78 +2,84 @@
 -- Assumes nothing.
 use mathlib.Core.Path.{refl}
 use base.Logic.{id⊢, emp}
-use Rattle.lent.specs.contracts.rows.put_row as rows-put-row
-use Rattle.lent.proofs.rows.put_row.Symbol as rows-put-row-symbol
-use Rattle.lent.proofs.rows.put_row.Met as rows-put-row-met
-use Rattle.lent.specs.contracts.rows.has_room as rows-has-room
-use Rattle.lent.proofs.rows.has_room.Symbol as rows-has-room-symbol
-use Rattle.lent.proofs.rows.has_room.Met as rows-has-room-met
-use Rattle.lent.specs.contracts.rows.settle as rows-settle
-use Rattle.lent.proofs.rows.settle.Symbol as rows-settle-symbol
-use Rattle.lent.proofs.rows.settle.Met as rows-settle-met
-use Rattle.lent.specs.contracts.words.wipe_from as words-wipe-from
-use Rattle.lent.proofs.words.wipe_from.Symbol as words-wipe-from-symbol
-use Rattle.lent.proofs.words.wipe_from.Met as words-wipe-from-met
-use Rattle.lent.specs.contracts.words.hand_over as words-hand-over
-use Rattle.lent.proofs.words.hand_over.Symbol as words-hand-over-symbol
-use Rattle.lent.proofs.words.hand_over.Met as words-hand-over-met
-use Rattle.lent.specs.contracts.words.refuse as words-refuse
-use Rattle.lent.proofs.words.refuse.Symbol as words-refuse-symbol
-use Rattle.lent.proofs.words.refuse.Met as words-refuse-met
+use Rattle.lent.specs.contracts.rows.put_row as rows_put_row
+use Rattle.lent.proofs.rows.put_row.Symbol as rows_put_row_symbol
+use Rattle.lent.proofs.rows.put_row.Met as rows_put_row_met
+use Rattle.lent.specs.contracts.rows.has_room as rows_has_room
+use Rattle.lent.proofs.rows.has_room.Symbol as rows_has_room_symbol
+use Rattle.lent.proofs.rows.has_room.Met as rows_has_room_met
+use Rattle.lent.specs.contracts.rows.settle as rows_settle
+use Rattle.lent.proofs.rows.settle.Symbol as rows_settle_symbol
+use Rattle.lent.proofs.rows.settle.Met as rows_settle_met
+use Rattle.lent.specs.contracts.words.wipe_from as words_wipe_from
+use Rattle.lent.proofs.words.wipe_from.Symbol as words_wipe_from_symbol
+use Rattle.lent.proofs.words.wipe_from.Met as words_wipe_from_met
+use Rattle.lent.specs.contracts.words.hand_over as words_hand_over
+use Rattle.lent.proofs.words.hand_over.Symbol as words_hand_over_symbol
+use Rattle.lent.proofs.words.hand_over.Met as words_hand_over_met
+use Rattle.lent.specs.contracts.words.refuse as words_refuse
+use Rattle.lent.proofs.words.refuse.Symbol as words_refuse_symbol
+use Rattle.lent.proofs.words.refuse.Met as words_refuse_met
 use Rattle.settling.specs.Determined.{Determined}
 use Rattle.settling.proofs.Facts.{by_clause}
 use Rattle.contracts.proofs.Rules.{one_answer}
 
-pub rows_put_row_determined : Determined rows-put-row-symbol.routine rows-put-row.ended (λ M. rows-put-row.clauses)
+pub rows_put_row_determined :
+    Determined rows_put_row_symbol.code rows_put_row_symbol.name rows_put_row.ended (λ M 𝓤. rows_put_row.clauses)
 rows_put_row_determined = record {
-  met = λ M. rows-put-row-met.met;
+  met = λ M. rows_put_row_met.met;
   kept = refl;
   free = λ M 𝓤 𝓛 mem run κs a. (tt, id⊢ 𝓤 (emp 𝓤));
   one = λ M 𝓤 𝓛 mem run κs a g g' r r' left left' s s'.
-      by_clause 𝓤 rows-put-row.ended κs a r r' left left' (λ p q. (search one_answer, search one_answer)) s s';
+      by_clause 𝓤 rows_put_row.ended κs a r r' left left' (λ p q. (search one_answer, search one_answer)) s s';
 }
 
-pub rows_has_room_determined : Determined rows-has-room-symbol.routine rows-has-room.ended (λ M. rows-has-room.clauses)
+pub rows_has_room_determined :
+    Determined rows_has_room_symbol.code rows_has_room_symbol.name rows_has_room.ended (λ M 𝓤. rows_has_room.clauses)
 rows_has_room_determined = record {
-  met = λ M. rows-has-room-met.met;
+  met = λ M. rows_has_room_met.met;
   kept = refl;
   free = λ M 𝓤 𝓛 mem run κs a. (tt, id⊢ 𝓤 (emp 𝓤));
   one = λ M 𝓤 𝓛 mem run κs a g g' r r' left left' s s'.
-      by_clause 𝓤 rows-has-room.ended κs a r r' left left' (λ p q. (search one_answer, search one_answer)) s s';
+      by_clause 𝓤 rows_has_room.ended κs a r r' left left' (λ p q. (search one_answer, search one_answer)) s s';
 }
 
-pub rows_settle_determined : Determined rows-settle-symbol.routine rows-settle.ended (λ M. rows-settle.clauses)
+pub rows_settle_determined :
+    Determined rows_settle_symbol.code rows_settle_symbol.name rows_settle.ended (λ M 𝓤. rows_settle.clauses)
 rows_settle_determined = record {
-  met = λ M. rows-settle-met.met;
+  met = λ M. rows_settle_met.met;
   kept = refl;
   free = λ M 𝓤 𝓛 mem run κs a. (tt, id⊢ 𝓤 (emp 𝓤));
   one = λ M 𝓤 𝓛 mem run κs a g g' r r' left left' s s'.
-      by_clause 𝓤 rows-settle.ended κs a r r' left left' (λ p q. (search one_answer, search one_answer)) s s';
+      by_clause 𝓤 rows_settle.ended κs a r r' left left' (λ p q. (search one_answer, search one_answer)) s s';
 }
 
-pub words_wipe_from_determined : Determined words-wipe-from-symbol.routine words-wipe-from.ended (λ M. words-wipe-from.clauses)
+pub words_wipe_from_determined :
+    Determined words_wipe_from_symbol.code words_wipe_from_symbol.name words_wipe_from.ended (λ M 𝓤. words_wipe_from.clauses)
 words_wipe_from_determined = record {
-  met = λ M. words-wipe-from-met.met;
+  met = λ M. words_wipe_from_met.met;
   kept = refl;
   free = λ M 𝓤 𝓛 mem run κs a. (tt, id⊢ 𝓤 (emp 𝓤));
   one = λ M 𝓤 𝓛 mem run κs a g g' r r' left left' s s'.
-      by_clause 𝓤 words-wipe-from.ended κs a r r' left left' (λ p q. (search one_answer, search one_answer)) s s';
+      by_clause 𝓤 words_wipe_from.ended κs a r r' left left' (λ p q. (search one_answer, search one_answer)) s s';
 }
 
-pub words_hand_over_determined : Determined words-hand-over-symbol.routine words-hand-over.ended (λ M. words-hand-over.clauses)
+pub words_hand_over_determined :
+    Determined words_hand_over_symbol.code words_hand_over_symbol.name words_hand_over.ended (λ M 𝓤. words_hand_over.clauses)
 words_hand_over_determined = record {
-  met = λ M. words-hand-over-met.met;
+  met = λ M. words_hand_over_met.met;
   kept = refl;
   free = λ M 𝓤 𝓛 mem run κs a. (tt, id⊢ 𝓤 (emp 𝓤));
   one = λ M 𝓤 𝓛 mem run κs a g g' r r' left left' s s'.
-      by_clause 𝓤 words-hand-over.ended κs a r r' left left' (λ p q. (search one_answer, search one_answer)) s s';
+      by_clause 𝓤 words_hand_over.ended κs a r r' left left' (λ p q. (search one_answer, search one_answer)) s s';
 }
 
-pub words_refuse_determined : Determined words-refuse-symbol.routine words-refuse.ended (λ M. words-refuse.clauses)
+pub words_refuse_determined :
+    Determined words_refuse_symbol.code words_refuse_symbol.name words_refuse.ended (λ M 𝓤. words_refuse.clauses)
 words_refuse_determined = record {
-  met = λ M. words-refuse-met.met;
+  met = λ M. words_refuse_met.met;
   kept = refl;
   free = λ M 𝓤 𝓛 mem run κs a. (tt, id⊢ 𝓤 (emp 𝓤));
   one = λ M 𝓤 𝓛 mem run κs a g g' r r' left left' s s'.
-      by_clause 𝓤 words-refuse.ended κs a r r' left left' (λ p q. (search one_answer, search one_answer)) s s';
+      by_clause 𝓤 words_refuse.ended κs a r r' left left' (λ p q. (search one_answer, search one_answer)) s s';
 }

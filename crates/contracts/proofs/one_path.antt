@@ -2,18 +2,19 @@
 -- Assumes nothing.
 use mathlib.Core.Path.{refl}
 use base.Logic.{id⊢, emp}
-use Rattle.one_path.specs.contracts.arrival_path.compute_safe_arrival_path as arrival-path-compute-safe-arrival-path
-use Rattle.one_path.proofs.arrival_path.compute_safe_arrival_path.Symbol as arrival-path-compute-safe-arrival-path-symbol
-use Rattle.one_path.proofs.arrival_path.compute_safe_arrival_path.Met as arrival-path-compute-safe-arrival-path-met
+use Rattle.one_path.specs.contracts.arrival_path.compute_safe_arrival_path as arrival_path_compute_safe_arrival_path
+use Rattle.one_path.proofs.arrival_path.compute_safe_arrival_path.Symbol as arrival_path_compute_safe_arrival_path_symbol
+use Rattle.one_path.proofs.arrival_path.compute_safe_arrival_path.Met as arrival_path_compute_safe_arrival_path_met
 use Rattle.settling.specs.Determined.{Determined}
 use Rattle.settling.proofs.Facts.{by_clause}
 use Rattle.contracts.proofs.Rules.{one_answer}
 
-pub arrival_path_compute_safe_arrival_path_determined : Determined arrival-path-compute-safe-arrival-path-symbol.routine arrival-path-compute-safe-arrival-path.ended (λ M. arrival-path-compute-safe-arrival-path.clauses)
+pub arrival_path_compute_safe_arrival_path_determined :
+    Determined arrival_path_compute_safe_arrival_path_symbol.code arrival_path_compute_safe_arrival_path_symbol.name arrival_path_compute_safe_arrival_path.ended (λ M 𝓤. arrival_path_compute_safe_arrival_path.clauses)
 arrival_path_compute_safe_arrival_path_determined = record {
-  met = λ M. arrival-path-compute-safe-arrival-path-met.met;
+  met = λ M. arrival_path_compute_safe_arrival_path_met.met;
   kept = refl;
   free = λ M 𝓤 𝓛 mem run κs a. (tt, id⊢ 𝓤 (emp 𝓤));
   one = λ M 𝓤 𝓛 mem run κs a g g' r r' left left' s s'.
-      by_clause 𝓤 arrival-path-compute-safe-arrival-path.ended κs a r r' left left' (λ p q. (search one_answer, search one_answer)) s s';
+      by_clause 𝓤 arrival_path_compute_safe_arrival_path.ended κs a r r' left left' (λ p q. (search one_answer, search one_answer)) s s';
 }

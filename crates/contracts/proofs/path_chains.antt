@@ -2,18 +2,19 @@
 -- Assumes nothing.
 use mathlib.Core.Path.{refl}
 use base.Logic.{id⊢, emp}
-use Rattle.path_chains.specs.contracts.trying.find_chain as trying-find-chain
-use Rattle.path_chains.proofs.trying.find_chain.Symbol as trying-find-chain-symbol
-use Rattle.path_chains.proofs.trying.find_chain.Met as trying-find-chain-met
+use Rattle.path_chains.specs.contracts.trying.find_chain as trying_find_chain
+use Rattle.path_chains.proofs.trying.find_chain.Symbol as trying_find_chain_symbol
+use Rattle.path_chains.proofs.trying.find_chain.Met as trying_find_chain_met
 use Rattle.settling.specs.Determined.{Determined}
 use Rattle.settling.proofs.Facts.{by_clause}
 use Rattle.contracts.proofs.Rules.{one_answer}
 
-pub trying_find_chain_determined : Determined trying-find-chain-symbol.routine trying-find-chain.ended (λ M. trying-find-chain.clauses)
+pub trying_find_chain_determined :
+    Determined trying_find_chain_symbol.code trying_find_chain_symbol.name trying_find_chain.ended (λ M 𝓤. trying_find_chain.clauses)
 trying_find_chain_determined = record {
-  met = λ M. trying-find-chain-met.met;
+  met = λ M. trying_find_chain_met.met;
   kept = refl;
   free = λ M 𝓤 𝓛 mem run κs a. (tt, id⊢ 𝓤 (emp 𝓤));
   one = λ M 𝓤 𝓛 mem run κs a g g' r r' left left' s s'.
-      by_clause 𝓤 trying-find-chain.ended κs a r r' left left' (λ p q. (search one_answer, search one_answer)) s s';
+      by_clause 𝓤 trying_find_chain.ended κs a r r' left left' (λ p q. (search one_answer, search one_answer)) s s';
 }
