@@ -112,7 +112,8 @@ class Gate(unittest.TestCase):
     """The script `test` in a folder of its own, where every command only notes that it was called."""
 
     TOOLS = ["preflight", "rust-source", "check-answers", "static-libraries"]
-    VERDICT = "rt: ok, 1 crates proved\n1 passed, 0 failed"
+    OK = "rt: ok; handles allowed: none; must-fail edits: 3 refused"
+    VERDICT = f"{OK}; every proof and must-fail edit was done in this run\n3 passed, 0 failed"
 
     def setUp(self):
         folder = tempfile.TemporaryDirectory()
@@ -124,15 +125,19 @@ class Gate(unittest.TestCase):
         self.command("tools/rust-source", "exit 3")
         self.command("oracle/cargo")
         self.command("bin/python3")
-        self.command("bin/rt", f"[ \"$1\" != ci ] || printf '%s\\n' '{self.VERDICT}'")
+        self.ci_says(self.VERDICT)
         self.command("plan", "cat examples/one.answer")
         self.file("examples/one.txt")
         self.file("examples/one.answer", "ok\n")
         self.command("holds", "cat examples/year.report")
         self.file("examples/year.holds")
         self.file("examples/year.report", "ok 0\n")
-        for crate in ("a", "b"):
+        self.file("crates.txt", "# the lowest first\n## floor\na:\nb_c staticlib: a\n")
+        for crate in ("a", "b_c"):
             self.file(f"crates/{crate}/src/lib.rt")
+
+    def ci_says(self, text):
+        self.command("bin/rt", f"[ \"$1\" != ci ] || printf '%s\\n' '{text}'")
 
     def file(self, name, text="", age=0):
         file = self.root / name
@@ -164,8 +169,27 @@ class Gate(unittest.TestCase):
         self.assertEqual(ended.returncode, 0, ended.stderr)
         self.assertTrue(ended.stdout.endswith(self.VERDICT + "\n"), ended.stdout)
         self.assertRegex(ended.stdout, r"\n== the gate took \d+ s\n")
-        steps = ("python3 tools/check_docs.py", "rt fmt --check", "rt ci", "python3 tools/refusals.py")
+        steps = ("python3 tools/check_docs.py", "python3 tools/refusals.py --form", "rt ci", "python3 tools/contracts.py --built")
         self.assertLessEqual({*steps, "plan examples/one.txt", "holds examples/year.holds"}, set(self.called()))
+        self.assertEqual([call for call in self.called() if call.startswith("rt ")], ["rt ci"])
+
+    def test_an_edit_that_counts_for_nothing(self):
+        for count, status in (("0", 0), ("1", 1), ("12", 1)):
+            with self.subTest(count):
+                self.ci_says(f"{self.OK}, {count} bad; every proof was done in this run\n3 passed, 0 failed")
+                self.assertEqual(self.gate().returncode, status)
+
+    def test_refused_by_a_limit_is_refused(self):
+        self.ci_says(f"{self.OK}, 2 of them only by a limit; done in this run: 1 of the 2 proofs\n3 passed, 0 failed")
+        self.assertEqual(self.gate().returncode, 0)
+        self.ci_says(f"{self.OK}, 2 of them only by a limit, 1 bad; done in this run: 1 of the 2 proofs\n3 passed, 0 failed")
+        self.assertEqual(self.gate().returncode, 1)
+
+    def test_a_verdict_that_cannot_be_read(self):
+        for said in ("3 passed, 0 failed", f"{self.OK}; all", f"{self.OK}; all\n0 passed, 0 failed", f"{self.OK}\n3 passed, 1 failed"):
+            with self.subTest(said):
+                self.ci_says(said)
+                self.assertEqual(self.gate().returncode, 1)
 
     def test_a_failure_ends_before_the_verdict(self):
         self.command("bin/python3", '[ "$1" != tools/replay_plans.py ]')
@@ -187,13 +211,13 @@ class Gate(unittest.TestCase):
         self.assertEqual(ended.returncode, 1)
         self.assertNotIn("rt ci", self.called())
 
-    def test_what_is_compared_runs_beside_the_proofs(self):
+    def test_what_is_proved_is_compared(self):
         self.command("tools/rust-source")
-        self.command("bin/rt", f"[ \"$1\" != ci ] || printf 'rt: must-fail a/one: refused\\n%s\\n' '{self.VERDICT}'")
         ended = self.gate()
         self.assertEqual(ended.returncode, 0, ended.stderr)
-        self.assertIn("static-libraries ", self.called())
-        self.assertIn("cargo run -q --release -p compare -- --count 20000", self.called())
+        compared = ["rt ci", "static-libraries --after-ci", "cargo run -q --release -p compare -- --count 20000"]
+        self.assertEqual([call for call in self.called() if call in compared], compared)
+        self.assertIn("check-answers ", self.called())
         self.command("oracle/cargo", "exit 101")
         ended = self.gate()
         self.assertEqual(ended.returncode, 1)
@@ -210,41 +234,53 @@ class Gate(unittest.TestCase):
         self.assertEqual(ended.returncode, 0, ended.stderr)
         self.assertIn("every proof: no crate has been proved here yet", ended.stdout)
         self.assertIn("the oracle's own tests: they are not built", ended.stdout)
-        self.assertIn("the must-fail edits, the comparison with the Rust", ended.stdout)
+        self.assertIn("the must-fail edits, the layout, the comparison with the Rust", ended.stdout)
         self.assertRegex(ended.stdout.splitlines()[-1], r"^== all that was run holds, after \d+ s; the gate is ./test$")
-        self.assertEqual([call for call in self.called() if call.startswith("rt ")], ["rt fmt --check"])
+        self.assertEqual([call for call in self.called() if call.startswith("rt ")], [])
         self.assertIn("python3 -m unittest discover -q -s tests", self.called())
 
     def proved(self, crate, age=60):
         self.file(f"crates/{crate}/src/lib.rt", age=2 * age)
-        self.file(f"target/stamp/{crate}", age=age)
+        self.file(f"crates/{crate}/out/incremental/kept")
+        self.file(f"target/proved/{crate}", age=age)
+
+    def checking(self, text="", crate="b_c"):
+        """`rt` notes the folder that it checks, and does what the text says in the crate's."""
+        self.command("bin/rt", f"echo \"in $(basename \"$PWD\")\" >>'{self.root}/log'\n[ $(basename \"$PWD\") != {crate} ] || {{ {text or ':'}; }}")
 
     def proofs(self):
-        return [call for call in self.called() if call.startswith("rt check")]
+        called = self.called()
+        folders = [call.removeprefix("in ") for call in called if call.startswith("in ")]
+        return list(zip((call for call in called if call.startswith("rt ")), folders))
 
     def test_quick_proves_what_was_changed_and_then_what_stands_on_it(self):
+        self.checking()
         self.proved("a")
-        self.proved("b")
+        self.proved("b_c")
+        top = ("rt all check", self.root.name)
         ended = self.gate("quick")
         self.assertEqual(ended.returncode, 0, ended.stderr)
-        self.assertEqual(self.proofs(), ["rt check"])
-        self.file("crates/b/specs/B.antt")
-        ended = self.gate("quick")
-        self.assertEqual(ended.returncode, 0, ended.stderr)
-        self.assertEqual(self.proofs(), ["rt check", "rt check b", "rt check"])
+        self.assertEqual(self.proofs(), [top])
+        self.file("crates/b_c/specs/B.antt")
+        for _ in range(2):
+            ended = self.gate("quick")
+            self.assertEqual(ended.returncode, 0, ended.stderr)
+        self.assertEqual(self.proofs(), [top, ("rt check", "b_c"), top, top])
         self.assertNotIn("rt check, which", ended.stdout)
 
     def test_quick_proves_a_crate_that_is_new(self):
+        self.checking()
         self.proved("a")
         self.gate("quick")
-        self.assertIn("rt check b", self.called())
+        self.assertIn(("rt check", "b_c"), self.proofs())
 
     def test_quick_fails_where_a_proof_does(self):
         self.proved("a")
-        self.command("bin/rt", '[ "$1" != check ]')
-        ended = self.gate("quick")
-        self.assertEqual(ended.returncode, 1)
-        self.assertNotIn("holds", ended.stdout)
+        for _ in range(2):
+            self.checking("exit 1")
+            ended = self.gate("quick")
+            self.assertEqual(ended.returncode, 1)
+            self.assertNotIn("holds", ended.stdout)
 
     def test_quick_fails_where_a_tool_does(self):
         self.command("bin/python3", '[ "$1" != tools/house.py ]')
@@ -254,21 +290,22 @@ class Gate(unittest.TestCase):
 
     def test_quick_is_over_in_its_time(self):
         self.proved("a")
-        self.command("bin/rt", '[ "$1" != check ] || sleep 60')
+        self.checking("sleep 60")
         ended = self.gate("quick", QUICK_SECONDS="2")
         self.assertEqual(ended.returncode, 0, ended.stderr)
         self.assertRegex(
             ended.stdout,
-            r"    rt check b, which did not end in the \d s that were left\n    rt check: no time was left\n",
+            r"    ./test prove b_c, which did not end in the \d s that were left\n    rt all check: no time was left\n",
         )
 
     def test_quick_fails_where_a_proof_did_before_it_was_cut(self):
         self.proved("a")
-        self.command("bin/rt", '[ "$1" != check ] || { echo "rt: b NOT PROVED (exit 1, 1 s)"; sleep 60; }')
-        ended = self.gate("quick", QUICK_SECONDS="2")
-        self.assertEqual(ended.returncode, 1)
-        self.assertIn("rt: b NOT PROVED", ended.stdout)
-        self.assertNotIn("holds", ended.stdout)
+        for said in ("fn b_c::f: not proved", "src/lib.rt:1:1: error[unknown-name]: no"):
+            self.checking(f"echo '{said}'; sleep 60")
+            ended = self.gate("quick", QUICK_SECONDS="2")
+            self.assertEqual(ended.returncode, 1)
+            self.assertIn(said, ended.stdout)
+            self.assertNotIn("all that was run holds", ended.stdout)
 
     def test_quick_runs_the_oracle_where_it_is_built(self):
         self.file("oracle/target/x/release/deps/planner-1")
