@@ -9,8 +9,7 @@ use line_proximity::calls;
 use shapes::vector::Vector;
 
 // When something that goes from (px, py) by (vx, vy) is within a squared distance of (rx, ry), in seconds.
-#[unsafe(no_mangle)]
-pub extern "C" fn igelbert_stationary_proximity(
+pub fn igelbert_stationary_proximity(
     rx: f64,
     ry: f64,
     px: f64,

@@ -13,8 +13,7 @@ use shapes::profile::CircularProfile;
 use times::time::TimePoint;
 
 // Where a leg of the agent's is at the instant t, and how fast it goes.
-#[unsafe(no_mangle)]
-pub extern "C" fn igelbert_position(
+pub fn igelbert_position(
     t0: i64,
     x0: f64,
     y0: f64,
@@ -32,8 +31,7 @@ pub extern "C" fn igelbert_position(
 }
 
 // When the agent's leg, from 0 to 1, and an obstacle's, from 2 to 3, come within a squared distance and when they leave it.
-#[unsafe(no_mangle)]
-pub extern "C" fn igelbert_detect_proximity(
+pub fn igelbert_detect_proximity(
     limit: f64,
     t0: i64,
     x0: f64,
@@ -58,8 +56,7 @@ pub extern "C" fn igelbert_detect_proximity(
 }
 
 // Whether the agent's leg, from 0 to 1, and an obstacle's, from 2 to 3, are in conflict.
-#[unsafe(no_mangle)]
-pub extern "C" fn igelbert_have_conflict(
+pub fn igelbert_have_conflict(
     footprint: f64,
     follow: f64,
     t0: i64,

@@ -11,8 +11,7 @@ use shapes::legs;
 use shapes::profile::CircularProfile;
 
 // Whether the agent's leg is safe among the obstacles of a lent table.
-#[unsafe(no_mangle)]
-pub extern "C" fn igelbert_is_safe_segment(
+pub fn igelbert_is_safe_segment(
     footprint: f64,
     follow: f64,
     t0: i64,

@@ -12,8 +12,7 @@ use shapes::legs;
 use shapes::profile::CircularProfile;
 
 // How near two carts may stand.
-#[unsafe(no_mangle)]
-pub extern "C" fn igelbert_critical_distance(
+pub fn igelbert_critical_distance(
     footprint: f64,
     follow: f64,
     footprint2: f64,
@@ -35,8 +34,7 @@ pub extern "C" fn igelbert_critical_distance(
 }
 
 // That distance times itself.
-#[unsafe(no_mangle)]
-pub extern "C" fn igelbert_critical_distance_squared(
+pub fn igelbert_critical_distance_squared(
     footprint: f64,
     follow: f64,
     footprint2: f64,
@@ -58,8 +56,7 @@ pub extern "C" fn igelbert_critical_distance_squared(
 }
 
 // How far one cart stays behind another.
-#[unsafe(no_mangle)]
-pub extern "C" fn igelbert_follow_distance(
+pub fn igelbert_follow_distance(
     footprint: f64,
     follow: f64,
     footprint2: f64,
@@ -81,8 +78,7 @@ pub extern "C" fn igelbert_follow_distance(
 }
 
 // The box of a leg of the agent's.
-#[unsafe(no_mangle)]
-pub extern "C" fn igelbert_box_of_leg(
+pub fn igelbert_box_of_leg(
     footprint: f64,
     follow: f64,
     t0: i64,
@@ -102,8 +98,7 @@ pub extern "C" fn igelbert_box_of_leg(
 }
 
 // The box of an obstacle's waypoints.
-#[unsafe(no_mangle)]
-pub extern "C" fn igelbert_box_of_obstacle(
+pub fn igelbert_box_of_obstacle(
     footprint: f64,
     follow: f64,
     times: &[i64],
@@ -119,8 +114,7 @@ pub extern "C" fn igelbert_box_of_obstacle(
 }
 
 // Whether two boxes overlap.
-#[unsafe(no_mangle)]
-pub extern "C" fn igelbert_boxes_overlap(
+pub fn igelbert_boxes_overlap(
     left: f64,
     bottom: f64,
     right: f64,

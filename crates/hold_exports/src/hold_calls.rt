@@ -10,8 +10,7 @@ use lent::words;
 use texts::room;
 
 // Begins a year in a memory of 197 words.
-#[unsafe(no_mangle)]
-pub extern "C" fn igelbert_holds_begin(memory: &mut [u64]) -> u64
+pub fn igelbert_holds_begin(memory: &mut [u64]) -> u64
     ensures { Handed begun_memory memory.old memory.new result }
 {
     let mut begun = [0u64; 197];
@@ -20,8 +19,7 @@ pub extern "C" fn igelbert_holds_begin(memory: &mut [u64]) -> u64
 }
 
 // Feeds a part of the text.
-#[unsafe(no_mangle)]
-pub extern "C" fn igelbert_holds_feed(part: &[u8], memory: &mut [u64]) -> u64
+pub fn igelbert_holds_feed(part: &[u8], memory: &mut [u64]) -> u64
     ensures { Handed (fed_memory memory.old part.now) memory.old memory.new result }
 {
     let kept = kept::reading_of(memory);
@@ -37,8 +35,7 @@ pub extern "C" fn igelbert_holds_feed(part: &[u8], memory: &mut [u64]) -> u64
 }
 
 // The report of what was fed so far, as bytes. The memory stays as it is.
-#[unsafe(no_mangle)]
-pub extern "C" fn igelbert_holds_finish(memory: &[u64], out: &mut [u8]) -> u64
+pub fn igelbert_holds_finish(memory: &[u64], out: &mut [u8]) -> u64
     ensures { Handed (finished_memory memory.now) out.old out.new result }
 {
     let kept = kept::reading_of(memory);

@@ -8,8 +8,7 @@ use root::nearest;
 use root::nearest::Root;
 
 // The root of x, rounded to the nearest double.
-#[unsafe(no_mangle)]
-pub extern "C" fn igelbert_square_root(x: f64, out: &mut [u64]) -> u64
+pub fn igelbert_square_root(x: f64, out: &mut [u64]) -> u64
     ensures { Handed (root_outcome (root_of x)) out.old out.new result }
 {
     let r = nearest::square_root(x);

@@ -12,8 +12,7 @@ use number_words::word;
 use times::time::{Duration, TimePoint};
 
 // The span from the instant `earlier` to the instant `later`.
-#[unsafe(no_mangle)]
-pub extern "C" fn igelbert_span_between(earlier: i64, later: i64, out: &mut [u64]) -> u64
+pub fn igelbert_span_between(earlier: i64, later: i64, out: &mut [u64]) -> u64
     ensures { Handed (span_outcome (span_between (record { 0 = earlier }) (record { 0 = later }))) out.old out.new result }
 {
     let s = TimePoint(later).since(TimePoint(earlier));
@@ -21,8 +20,7 @@ pub extern "C" fn igelbert_span_between(earlier: i64, later: i64, out: &mut [u64
 }
 
 // The instant a span after an instant.
-#[unsafe(no_mangle)]
-pub extern "C" fn igelbert_instant_after(instant: i64, span: i64, out: &mut [u64]) -> u64
+pub fn igelbert_instant_after(instant: i64, span: i64, out: &mut [u64]) -> u64
     ensures { Handed (instant_outcome (instant_after (record { 0 = instant }) (record { 0 = span }))) out.old out.new result }
 {
     let t = TimePoint(instant).plus(Duration(span));
@@ -30,8 +28,7 @@ pub extern "C" fn igelbert_instant_after(instant: i64, span: i64, out: &mut [u64
 }
 
 // The seconds of an instant, as a double.
-#[unsafe(no_mangle)]
-pub extern "C" fn igelbert_seconds_of_instant(instant: i64, out: &mut [u64]) -> u64
+pub fn igelbert_seconds_of_instant(instant: i64, out: &mut [u64]) -> u64
     ensures { Handed (Gives (Ieee.to_bits binary64 (seconds_of instant) ∷ [])) out.old out.new result }
 {
     let w = [word::of_double(TimePoint(instant).as_secs_f64())];
@@ -39,8 +36,7 @@ pub extern "C" fn igelbert_seconds_of_instant(instant: i64, out: &mut [u64]) -> 
 }
 
 // The seconds of a span, as a double.
-#[unsafe(no_mangle)]
-pub extern "C" fn igelbert_seconds_of_span(span: i64, out: &mut [u64]) -> u64
+pub fn igelbert_seconds_of_span(span: i64, out: &mut [u64]) -> u64
     ensures { Handed (Gives (Ieee.to_bits binary64 (seconds_of span) ∷ [])) out.old out.new result }
 {
     let w = [word::of_double(Duration(span).as_secs_f64())];
@@ -48,8 +44,7 @@ pub extern "C" fn igelbert_seconds_of_span(span: i64, out: &mut [u64]) -> u64
 }
 
 // The instant that many seconds after the start.
-#[unsafe(no_mangle)]
-pub extern "C" fn igelbert_instant_of_seconds(seconds: f64, out: &mut [u64]) -> u64
+pub fn igelbert_instant_of_seconds(seconds: f64, out: &mut [u64]) -> u64
     ensures { Handed (instant_outcome (instant_of_seconds seconds)) out.old out.new result }
 {
     let t = TimePoint::from_secs_f64(seconds);
@@ -57,8 +52,7 @@ pub extern "C" fn igelbert_instant_of_seconds(seconds: f64, out: &mut [u64]) -> 
 }
 
 // The span of a number of seconds.
-#[unsafe(no_mangle)]
-pub extern "C" fn igelbert_span_of_seconds(seconds: f64, out: &mut [u64]) -> u64
+pub fn igelbert_span_of_seconds(seconds: f64, out: &mut [u64]) -> u64
     ensures { Handed (span_outcome (span_of_seconds seconds)) out.old out.new result }
 {
     let s = Duration::from_secs_f64(seconds);

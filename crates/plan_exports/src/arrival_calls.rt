@@ -12,8 +12,7 @@ use shapes::waypoint::Waypoint;
 use times::time::TimePoint;
 
 // The safe arrival times at (x, y) from t on among the obstacles of a lent table; no search lists more than 289 of them.
-#[unsafe(no_mangle)]
-pub extern "C" fn igelbert_arrival_times(
+pub fn igelbert_arrival_times(
     footprint: f64,
     follow: f64,
     t: i64,

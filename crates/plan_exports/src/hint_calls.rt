@@ -24,8 +24,7 @@ fn give_hints(filled: Filled, hints: &[u64], out: &mut [u64]) -> u64
 }
 
 // The ranked hints for the agent's leg among the obstacles of a lent table.
-#[unsafe(no_mangle)]
-pub extern "C" fn igelbert_wait_hints(
+pub fn igelbert_wait_hints(
     footprint: f64,
     follow: f64,
     t0: i64,

@@ -9,8 +9,7 @@ use shapes::profile::CircularProfile;
 use times::time::TimePoint;
 
 // One path for an arrival time, by way of lent hints, among the obstacles of a lent table.
-#[unsafe(no_mangle)]
-pub extern "C" fn igelbert_arrival_path(
+pub fn igelbert_arrival_path(
     footprint: f64,
     follow: f64,
     t0: i64,

@@ -8,8 +8,7 @@ use shapes::legs;
 use shapes::profile::CircularProfile;
 
 // The whole plan among the obstacles of a lent table: counts and paths in one room, the actions of all paths in the other.
-#[unsafe(no_mangle)]
-pub extern "C" fn igelbert_linear_paths(
+pub fn igelbert_linear_paths(
     footprint: f64,
     follow: f64,
     t0: i64,

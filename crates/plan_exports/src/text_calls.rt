@@ -6,8 +6,7 @@ use reply::replying;
 use texts::room;
 
 // The lines of a plan, as bytes; of a refusal its number alone.
-#[unsafe(no_mangle)]
-pub extern "C" fn igelbert_plan(stream: &[u8], out: &mut [u8]) -> u64
+pub fn igelbert_plan(stream: &[u8], out: &mut [u8]) -> u64
     ensures { Handed (stream_reply stream.now) out.old out.new result }
 {
     room::told_number(replying::reply(stream, out))
