@@ -5,14 +5,10 @@ use Prim.Native.Nat.{◌*◌, ◌^◌}
 use native.Mathlib.Omega.{arith}
 use Rattle.root.proofs.WholeRoot.{whole_small}
 use Rattle.root.proofs.NearestWhole.{nearest_whole}
-use borrow.Author.Rules.{rules}
 use Rattle.root.proofs.nearest.root_digits.Goals as goal
 
 pub overflow_add-result : goal.overflow_add-result
 overflow_add-result c = omega (arith, whole_small 54 (c.args.a * 2 ^ 54), c.whole_root.ensures)
-
-pub returns-then-t-eq0 : goal.returns-then-t-eq0
-returns-then-t-eq0 c = search rules
 
 pub returns : goal.returns
 returns c =
