@@ -1,9 +1,6 @@
 -- `number_exports::root_calls::igelbert_square_root` meets its contract: it hands over the pattern of the root that is found, or its refusal.
 -- Assumes nothing.
-use mathlib.Core.Path.{◌≡◌, sym, ◌∙◌}
-use borrow.Author.Rules.{rules}
-use Rattle.root.specs.Root.{root_of}
-use Rattle.root.specs.declared.nearest.Root.TheVariants.{Of, Refused}
+use mathlib.Core.Path.{sym, ◌∙◌}
 use Rattle.number_exports.proofs.root_calls.igelbert_square_root.Goals as goal
 
 pub returns-in_default : goal.returns-in_default

@@ -1,7 +1,6 @@
 -- `number_exports::time_calls::igelbert_instant_after` meets its contract: it hands over what `plus` finds.
 -- Assumes nothing.
 use mathlib.Core.Path.{◌≡◌, ◌∙◌}
-use borrow.Author.Rules.{rules}
 use Rattle.times.specs.Time.{instant_after}
 use Rattle.number_words.proofs.ReadBack.{read_back}
 use Rattle.number_exports.proofs.time_calls.igelbert_instant_after.Goals as goal

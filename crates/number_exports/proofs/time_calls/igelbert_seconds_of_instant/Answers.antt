@@ -1,7 +1,6 @@
 -- `number_exports::time_calls::igelbert_seconds_of_instant` meets its contract: it hands over the pattern of the instant's seconds.
 -- Assumes nothing.
 use mathlib.Core.Path.{◌≡◌, ap, ◌∙◌}
-use borrow.Author.Rules.{rules}
 use Rattle.times.specs.Time.{seconds_of}
 use Rattle.number_words.proofs.ReadBack.{read_back}
 use Rattle.number_exports.proofs.time_calls.igelbert_seconds_of_instant.Goals as goal

@@ -1,7 +1,6 @@
 -- `number_exports::time_calls::igelbert_span_between` meets its contract: it hands over what `since` finds.
 -- Assumes nothing.
 use mathlib.Core.Path.{◌≡◌, ◌∙◌}
-use borrow.Author.Rules.{rules}
 use Rattle.times.specs.Time.{span_between}
 use Rattle.number_words.proofs.ReadBack.{read_back}
 use Rattle.number_exports.proofs.time_calls.igelbert_span_between.Goals as goal

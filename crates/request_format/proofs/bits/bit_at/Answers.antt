@@ -4,7 +4,6 @@ use mathlib.Core.Path.{sym}
 use Prim.Native.Nat.{ℕ, ◌+◌, ◌/◌, ◌%◌, ◌<◌}
 use native.Mathlib.Nat.{div-le_self}
 use native.Mathlib.Omega.{arith}
-use borrow.Author.Rules.{rules}
 use lib.ListN.{get_or}
 use mir.Syntax.{w64}
 use mir.Val.{Fits}
@@ -25,7 +24,7 @@ pub overflow_cast-result-then-byte-s : goal.overflow_cast-result-then-byte-s
 overflow_cast-result-then-byte-s c =
     let a = c.args in
     let byte : ℕ = a.at / 8 + (a.at % 8 + a.k) / 8 in
-    quotient_fits (get_or a.s.now byte 0) _ (omega (arith, c.shared_slice_known-1.given byte))
+    quotient_fits (get_or a.s.now byte 0) _ (omega (arith, c.type_inv.s byte))
 
 pub returns-then-byte-s : goal.returns-then-byte-s
 returns-then-byte-s c =

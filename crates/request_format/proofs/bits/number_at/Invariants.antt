@@ -1,11 +1,8 @@
 -- `request_format::bits::number_at` meets its contract: after k turns the number is that of the first k bits.
 -- Assumes nothing.
-use mathlib.Core.Path.{◌≡◌, refl, sym, ap, ◌∙◌}
-use Prim.Native.Nat.{◌+◌, ◌-◌, ◌*◌, ◌≤◌, min}
-use native.Mathlib.Omega.{arith}
-use borrow.Author.Rules.{rules}
+use mathlib.Core.Path.{◌≡◌}
+use Prim.Native.Nat.{◌-◌, ◌≤◌}
 use Rattle.request_format.specs.Bits.{number_at}
-use Rattle.request_format.proofs.Digits.{bit_lt, number_more, number_room}
 use Rattle.request_format.proofs.bits.number_at.Given as goal
 
 abbrev pub invariant-loop-k : goal.invariant-loop-k

@@ -2,11 +2,9 @@
 -- all.
 -- Assumes nothing.
 use mathlib.Core.Path.{◌≡◌, sym, ap, ◌∙◌}
-use Prim.Native.Nat.{ℕ, ◌+◌, ◌-◌, ◌*◌, ◌≤◌, ◌<◌}
+use Prim.Native.Nat.{ℕ, ◌+◌, ◌-◌, ◌<◌}
 use native.Mathlib.Omega.{arith}
-use borrow.Author.Rules.{rules}
 use Rattle.request_format.specs.Format.{obstacles_at}
-use Rattle.request_format.specs.Measured.{extent_of}
 use Rattle.request_format.proofs.Counts.{length_obstacles, obstacles_done}
 use Rattle.request_format.proofs.Digits.{number_lt}
 use Rattle.request_format.proofs.Extents.{extent_from, extent_whole, extent_done, single, many, next}

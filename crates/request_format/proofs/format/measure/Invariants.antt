@@ -1,15 +1,11 @@
 -- `request_format::format::measure` meets its contract: what is found from here on, with the legs and bits so far, is what is found of
 -- all.
 -- Assumes nothing.
-use mathlib.Core.Path.{◌≡◌, sym, ap, ◌∙◌}
-use Prim.Native.Nat.{ℕ, ◌+◌, ◌-◌, ◌*◌, ◌≤◌, ◌<◌}
-use native.Mathlib.Omega.{arith}
-use borrow.Author.Rules.{rules}
+use mathlib.Core.Path.{◌≡◌}
+use Prim.Native.Nat.{◌+◌, ◌-◌, ◌*◌, ◌≤◌}
 use Rattle.request_format.specs.Format.{obstacles_at}
 use Rattle.request_format.specs.Measured.{extent_of}
-use Rattle.request_format.proofs.Counts.{length_obstacles, obstacles_done}
-use Rattle.request_format.proofs.Digits.{number_lt}
-use Rattle.request_format.proofs.Extents.{extent_from, extent_whole, extent_done, single, many, next}
+use Rattle.request_format.proofs.Extents.{extent_from}
 use Rattle.request_format.proofs.format.measure.Given as goal
 
 abbrev pub invariant-loop-o : goal.invariant-loop-o
