@@ -47,7 +47,7 @@ class Contracts(unittest.TestCase):
 
     def proved(self, crate, public):
         """What the toolchain says of a crate once it is proved."""
-        self.write(f"target/rlib/{crate}.rlib/interface/toolchain/mir.json", json.dumps([[name, {}] for name in public]))
+        self.write(f"crates/{crate}/out/rlib/{crate}.rlib/interface/toolchain/mir.json", json.dumps([[name, {}] for name in public]))
 
     def said(self, *arguments):
         out = io.StringIO()
@@ -87,7 +87,7 @@ class Contracts(unittest.TestCase):
         self.assertEqual(self.said("--built"), (1, [f"{tool.LIST}:1: {text}"]))
         self.proved("lists", PUBLIC[:1])
         self.assertIn("is not among what the toolchain says is public", self.said("--built")[1][0])
-        (self.root / "target/rlib/lists.rlib/interface/toolchain/mir.json").unlink()
+        (self.root / "crates/lists/out/rlib/lists.rlib/interface/toolchain/mir.json").unlink()
         self.assertIn("`lists` is not proved", self.said("--built")[1][0])
 
     def test_nothing_promised(self):

@@ -182,7 +182,7 @@ def built(root):
     stated = {function.name: function for function in contracts.all}
     public = set()
     for crate in contracts.house.crates:
-        interface = root / f"target/rlib/{crate}.rlib/interface/toolchain/mir.json"
+        interface = root / f"crates/{crate}/out/rlib/{crate}.rlib/interface/toolchain/mir.json"
         if interface.is_file():
             public.update(name for name, _ in json.loads(interface.read_text(encoding="utf-8")))
         elif (root / f"crates/{crate}/src/lib.rt").is_file():
