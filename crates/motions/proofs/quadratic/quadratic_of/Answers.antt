@@ -1,0 +1,9 @@
+-- `motions::quadratic::quadratic_of` meets its contract: each coefficient is the definition's, with 2 by its bits.
+-- Assumes nothing.
+use mathlib.Core.Path.{refl}
+use lib.Ieee.{of_bits}
+use Rattle.motions.proofs.quadratic.quadratic_of.Goals as goal
+
+pub returns : goal.returns
+unfolding of_bits
+returns c = refl
