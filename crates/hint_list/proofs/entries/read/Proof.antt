@@ -18,7 +18,7 @@ returns c =
     let a = c.before.before.before.before.before.before.before.before.before.before.before.args in
     let l = a.hints.now in
     rw (
-      c.before.before.before.before.before.before.before.before.before.Signed-of.ensures,
+      c.before.before.before.before.before.before.before.before.before.signed_of.ensures,
       read_back _ (signed_fits (get_or l (6 * a.i + 1) 0)),
       c.before.before.before.before.before.before.before.double-of.ensures,
       c.before.before.before.before.before.double-of2.ensures,

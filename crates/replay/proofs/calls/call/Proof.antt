@@ -21,7 +21,7 @@ returns c =
     let a = c.before.before.before.before.before.before.before.before.args.a in
     rw c.before.before.before.before.before.before.match.keys1
     (rw (
-      c.before.before.before.before.before.Signed-of.ensures,
+      c.before.before.before.before.before.signed_of.ensures,
       c.before.before.before.before.signed-of2.ensures,
       passed a.first,
       passed a.second,

@@ -48,7 +48,7 @@ found : (c : tie.After-are-waypoints invariant-loop decreases-loop) →
     let a = loop.before.before.args in
     c.are-waypoints.result ≡ every is_waypoint (waypoints_in a.marks.now a.places.now loop.loop.o)
 unfolding waypoints_in
-found c = rw (← c.before.before.first_of.ensures, ← c.before.end_of_lem.ensures) c.are-waypoints.ensures
+found c = rw (← c.before.before.first_of.ensures, ← c.before.end_of.ensures) c.are-waypoints.ensures
 
 returns-2 : tie.Need-returns-2 invariant-loop decreases-loop
 returns-2 c =

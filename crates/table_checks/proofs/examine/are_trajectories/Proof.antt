@@ -34,7 +34,7 @@ found : (c : tie.After-is-trajectory invariant-loop decreases-loop) →
     let a = loop.before.before.args in
     c.is-trajectory.result ≡ is_trajectory (waypoints_in a.marks.now a.places.now loop.loop.o)
 unfolding waypoints_in
-found c = rw (← c.before.before.first_of.ensures, ← c.before.end_of_lem.ensures) c.is-trajectory.ensures
+found c = rw (← c.before.before.first_of.ensures, ← c.before.end_of.ensures) c.is-trajectory.ensures
 
 returns : tie.Need-returns invariant-loop decreases-loop
 returns c =

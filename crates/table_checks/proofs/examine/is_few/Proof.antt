@@ -51,7 +51,7 @@ returns c places =
     let n = c.before.before.before.before.before.before.count_of.result in
     let marks = c.before.before.before.before.before.before.before.args.marks.now in
     let from = c.before.before.before.first_of.ensures in
-    let to = c.before.before.end_of_lem.ensures in
+    let to = c.before.before.end_of.ensures in
     let own = c.before.legs-between.ensures in
     let here = legs-between marks places l.o in
     let next = legs_next_all (obstacle_in marks places) n l.o c.before.before.before.before.loop-test.true in
@@ -78,7 +78,7 @@ loop-again c =
     let n = c.before.before.before.before.before.before.count_of.result in
     let marks = c.before.before.before.before.before.before.before.args.marks.now in
     let from = c.before.before.before.first_of.ensures in
-    let to = c.before.before.end_of_lem.ensures in
+    let to = c.before.before.end_of.ensures in
     let own = c.before.legs-between.ensures in
     let more = c.before.before.before.before.loop-test.true in (
       omega arith,
