@@ -3,9 +3,7 @@
 -- Assumes nothing.
 use mathlib.Core.Path.{◌≡◌, refl}
 use mathlib.Core.Bool.{Bool, cond, true, false}
-use mathlib.Core.List.{[], ◌∷◌}
-use types.Run.{OneOf, miss}
-use denote.Enum.Declared.{tag_of}
+use Prim.Native.Nat.{ℕ}
 use lib.Ieee.{Float}
 use Rattle.times.specs.declared.time.TimePoint.{TimePoint}
 use Rattle.shapes.specs.Box.{overlap}
@@ -15,17 +13,16 @@ use Rattle.proximity.specs.Proximity.{proximity_of, entry_of}
 use Rattle.proximity.specs.declared.detect.Proximity.{Proximity}
 use Rattle.proximity.specs.declared.detect.Proximity.TheVariants.{Never, Enters, Passes, Refused}
 use Rattle.proximity.specs.declared.detect.Entry.TheVariants as E
-use Rattle.proximity.specs.contracts.detect.Proximity.{the_type as proximity}
 use Rattle.conflicts.specs.Conflict.{entered_at, judged, proximity_in_boxes, conflict_of}
 use Rattle.conflicts.specs.declared.conflict.Verdict.TheVariants as W
 
 -- An answer that is no refusal and has no entry is clear; one that has an entry is judged by it.
-pub no_entry : (limit : Float) (agent obstacle : Leg) (p : Proximity) → OneOf (0 ∷ (1 ∷ (2 ∷ []))) (tag_of proximity p) →
+pub no_entry : (limit : Float) (agent obstacle : Leg) (p : Proximity) → ((n : ℕ) → p ≡ Refused n → ⊥) →
     entry_of p ≡ E.Missing → judged limit agent obstacle p ≡ W.Clear
-no_entry limit agent obstacle Never k e = refl
-no_entry limit agent obstacle (Enters t) k e = cc
-no_entry limit agent obstacle (Passes t u) k e = cc
-no_entry limit agent obstacle (Refused n) k e = absurd (miss (0 ∷ (1 ∷ (2 ∷ []))) 3 tt k)
+no_entry limit agent obstacle Never other e = refl
+no_entry limit agent obstacle (Enters t) other e = cc
+no_entry limit agent obstacle (Passes t u) other e = cc
+no_entry limit agent obstacle (Refused n) other e = absurd (other n refl)
 
 pub with_entry : (limit : Float) (agent obstacle : Leg) (p : Proximity) (t : TimePoint) → entry_of p ≡ E.At t →
     judged limit agent obstacle p ≡ entered_at limit agent obstacle t
