@@ -1,7 +1,6 @@
 -- `hint_list::entries::count_of` meets its contract.
 -- Assumes nothing.
 use native.Mathlib.Omega.{arith}
-use borrow.Author.Rules.{rules}
 use Rattle.hint_list.specs.Words.{count_in}
 use Rattle.hint_list.proofs.entries.count_of.Goals as goal
 

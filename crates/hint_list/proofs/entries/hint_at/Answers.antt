@@ -2,7 +2,6 @@
 -- Assumes nothing.
 use mathlib.Core.Path.{sym, ◌∙◌}
 use native.Mathlib.Omega.{arith}
-use borrow.Author.Rules.{rules}
 use lib.Ieee.{of_bits}
 use Rattle.hint_list.proofs.Reading.{few, hint_there, hint_missing}
 use Rattle.hint_list.proofs.entries.hint_at.Goals as goal

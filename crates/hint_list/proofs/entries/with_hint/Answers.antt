@@ -6,7 +6,6 @@ use lib.Dec.{T}
 use lib.Ieee.{binary64, of_bits}
 use lib.Ieee.Bits.{of_bits-to_bits}
 use Rattle.number_words.proofs.Words.{signed_back}
-use borrow.Author.Rules.{rules}
 use borrow.Author.Tests.{le-leb, lt-leb}
 use Rattle.hint_list.specs.Hints.{one_hint}
 use Rattle.hint_list.specs.Words.{laid}

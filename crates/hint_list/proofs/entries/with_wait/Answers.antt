@@ -1,6 +1,5 @@
 -- `hint_list::entries::with_wait` meets its contract.
 -- Assumes nothing.
-use borrow.Author.Rules.{rules}
 use Rattle.hint_list.specs.Hints.{one_wait}
 use Rattle.hint_list.proofs.Added.{added_none}
 use Rattle.hint_list.proofs.entries.with_wait.Goals as goal

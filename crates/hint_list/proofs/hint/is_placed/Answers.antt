@@ -1,7 +1,6 @@
 -- `hint_list::hint::is_placed` meets its contract: both coordinates are tested, with the ends of the definition.
 -- Assumes nothing.
 use mathlib.Core.Path.{sym, ◌∙◌}
-use borrow.Author.Rules.{rules}
 use lib.Ieee
 use Rattle.hint_list.specs.Hint.{is_placed}
 use Rattle.hint_list.proofs.hint.is_placed.Goals as goal
