@@ -1,7 +1,7 @@
 -- The sweep after another begins later, at an exit or a finish, so that fewer of those are left (RULES D3a to D3c).
 -- Assumes nothing.
 use mathlib.Core.Path.{refl, sym}
-use mathlib.Core.Logic.{◌≢◌, ◌⊎◌, inl, inr, ⊎_elim}
+use mathlib.Core.Logic.{◌≢◌, inl, inr, ⊎_elim}
 use mathlib.Core.Bool.{false}
 use mathlib.Core.List.{List, [], ◌∷◌, Memᴰ}
 use Prim.Native.Nat.{◌<◌}
