@@ -4,9 +4,7 @@
 use Prim.Native.Nat.{ℕ, ◌+◌, ◌≤◌, ◌<◌}
 use mathlib.Core.Path.{◌≡◌, refl, sym, ap, ◌∙◌}
 use mathlib.Core.Bool.{Bool, true, false, cond}
-use mathlib.Core.List.{List, [], ◌∷◌}
-use types.Run.{OneOf, hit, miss}
-use denote.Enum.Declared.{tag_of}
+use mathlib.Core.List.{List, []}
 use lib.Ieee.{Float}
 use Rattle.lent.specs.Listed.{listed_to}
 use Rattle.lent.proofs.Listed.{listed_done, listed_next}
@@ -15,7 +13,6 @@ use Rattle.shapes.specs.declared.bounding_box.BoundingBox.{BoundingBox}
 use Rattle.shapes.specs.declared.waypoint.Leg.{Leg}
 use Rattle.conflicts.specs.declared.conflict.Verdict.{Verdict}
 use Rattle.conflicts.specs.declared.conflict.Verdict.TheVariants.{Clear, Conflict, Refused}
-use Rattle.conflicts.specs.contracts.conflict.Verdict.{the_type as verdict}
 use Rattle.table.specs.Obstacle.{legs_of}
 use Rattle.table.specs.Table.{first_in, profile_in, limit_in, box_in, leg_in, waypoints_in, obstacle_in}
 use Rattle.table.specs.Walked.{walked_in}
@@ -24,14 +21,14 @@ use Rattle.segments.specs.Segment.{leg_verdict, or_else, first_of, obstacle_verd
 
 -- What the `else` of `let Verdict::Clear = v else` knows of v.
 abbrev pub Ends : Verdict → Type 0
-Ends v = OneOf (1 ∷ (2 ∷ [])) (tag_of verdict v)
+Ends v = v ≡ Clear → ⊥
 
 -- A refusal is no clear verdict.
 pub refusal_ends : (n : ℕ) → Ends (Refused n)
-refusal_ends n = hit (1 ∷ (2 ∷ [])) 2 tt
+refusal_ends n e = cc
 
 ends : (v rest : Verdict) → Ends v → or_else v rest ≡ v
-ends Clear rest k = absurd (miss (1 ∷ (2 ∷ [])) 0 tt k)
+ends Clear rest k = absurd (k refl)
 ends Conflict rest k = refl
 ends (Refused n) rest k = refl
 
