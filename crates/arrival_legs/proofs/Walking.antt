@@ -1,7 +1,7 @@
 -- How the walks over an obstacle's legs go: a leg at a time, up to its last waypoint.
 -- Assumes nothing.
 use Prim.Native.Nat.{ℕ, zero, suc, ◌+◌, ◌-◌, ◌≤◌, ◌<◌}
-use mathlib.Core.Path.{◌≡◌, refl, ap, ◌∙◌}
+use mathlib.Core.Path.{◌≡◌, refl, sym, ap, ◌∙◌}
 use mathlib.Core.Bool.{cond, ◌&&◌}
 use mathlib.Core.List.{List, [], ◌∷◌}
 use native.Mathlib.Omega.{arith}
@@ -101,7 +101,7 @@ module _ (g : Waypoint) (limit : Float) (w : ℕ → Waypoint) where
 
   -- The finish is the last waypoint's time, and the last leg ends at its place.
   ending_is : (c : TimePoint) (n i : ℕ) →
-      cond (lt_z c.0 (finish_from n i).0 && (view_at g).ends_near_law (last (view_at g) (watched limit (leg i)) (rest n i)))
+      cond (lt_z c.0 (finish_from n i).0 && (view_at g).ends_near (last (view_at g) (watched limit (leg i)) (rest n i)))
       (X.At (finish_from n i)) X.Missing ≡ ending_of g limit (w (i + suc n)) c
   unfolding watched_legs listed ending_of
   ending_is c zero i = refl
@@ -121,7 +121,7 @@ module _ (g : Waypoint) (limit : Float) (w : ℕ → Waypoint) where
         by (suc n) e =
             let same : from + suc n ≡ end = omega arith in
             let finishes : finish_from n from ≡ (w end).time = finish_is n from ∙ ap (λ k. (w k).time) same in
-            rw finishes
+            ap (λ (t : TimePoint). look (view_at g) c t (legs (suc n))) (sym finishes)
 
     -- The walk that ends with what the last waypoint gives is the obstacle's (RULES 12.15, 12.16).
     pub next_begins : from < end →
@@ -132,4 +132,6 @@ module _ (g : Waypoint) (limit : Float) (w : ℕ → Waypoint) where
         by : (n : ℕ) → end - from ≡ n →
             next_in (view_at g) c (ending_of g limit (w end) c) (legs n) ≡ next (view_at g) c (legs n)
         by zero e = absurd (omega arith)
-        by (suc n) e = let same : from + suc n ≡ end = omega arith in rw (← same, ← ending_is c n from)
+        by (suc n) e = let same : from + suc n ≡ end = omega arith in
+            ap (λ (x : Next). next_in (view_at g) c x (legs (suc n)))
+            (ap (λ (k : ℕ). ending_of g limit (w k) c) (sym same) ∙ sym (ending_is c n from))

@@ -44,7 +44,7 @@ view_at g =
       start = λ w. w.leg.start.time;
       end = λ w. w.leg.end.time;
       near = λ w. near_of g w.limit w.leg;
-      ends_near_law = λ w. ends_near g w.limit w.leg.end;
+      ends_near = λ w. ends_near g w.limit w.leg.end;
     }
 
 -- The legs of an obstacle, held to the critical distance squared of the agent and the obstacle (RULES 12.1).

@@ -165,7 +165,7 @@ module _ {Leg : Type 0} (v : View Leg) (Q : TimePoint → Type 0) (R : ℕ → T
   next_gives p [] g = tt
   next_gives p (l ∷ ls) g =
       let f = finish v l ls in
-      let near = v.ends_near_law (last v l ls) in
+      let near = v.ends_near (last v l ls) in
       next_in_gives p (cond (lt_z p.0 f.0 && near) (X.At f) X.Missing) (l ∷ ls)
       (by_cond (OnNext (Later Q p) R) (lt_z p.0 f.0 && near)
       (λ k. (lt_z_yes (passed (both (lt_z p.0 f.0) near k).0), g.finishes.0)) (λ _. tt))

@@ -23,7 +23,7 @@ pub record View (Leg : Type 0) : Type 0 where
   pub start : Leg → TimePoint
   pub end : Leg → TimePoint
   pub near : Leg → Proximity
-  pub ends_near_law : Leg → Bool
+  pub ends_near : Leg → Bool
 
 -- The list and the count of sweeps, or a refusal. `Unfinished` is never the answer: `finished` of proofs/Theorems.
 pub data Searched : Type 0 where
@@ -144,7 +144,7 @@ module _ {Leg : Type 0} (v : View Leg) where
   next p [] = X.Missing
   next p (l ∷ ls) =
       let f = finish l ls in
-      next_in p (cond (lt_z p.0 f.0 && v.ends_near_law (last l ls)) (X.At f) X.Missing) (l ∷ ls)
+      next_in p (cond (lt_z p.0 f.0 && v.ends_near (last l ls)) (X.At f) X.Missing) (l ∷ ls)
 
   -- The smallest over the obstacles, in order (RULES 12.17).
   unfoldable pub soonest : TimePoint → Next → List (List Leg) → Next

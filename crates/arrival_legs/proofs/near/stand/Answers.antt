@@ -2,12 +2,8 @@
 -- Assumes nothing.
 use mathlib.Core.Path.{refl}
 use Rattle.arrival_legs.specs.Watched.{standing_leg}
-use Rattle.arrival_legs.proofs.near.stand.Statement.{statement}
-use Rattle.arrival_legs.proofs.near.stand.Tie as tie
+use Rattle.arrival_legs.proofs.near.stand.Goals as goal
 
-returns : tie.Need-returns
+pub returns : goal.returns
 unfolding standing_leg
 returns c = refl
-
-pub stand-spec : {M : Type 1} → statement M
-stand-spec = tie.close (tie.spec returns)
