@@ -11,6 +11,8 @@ import re
 import sys
 
 ROOT = pathlib.Path(__file__).parents[1]
+# The files of proofs/ that are of one function, in its folder: what its goals are answered by, its loops' invariants, and a walk.
+OF_FUNCTIONS = ("Answers.antt", "Invariants.antt", "Proof.antt")
 
 
 def lines(files, comment):
@@ -22,16 +24,16 @@ def lines(files, comment):
 def crates(root):
     """The crates of crates.txt, in its order."""
     for line in (root / "crates.txt").read_text().splitlines():
-        name = line.split("#")[0].split(":")[0].strip()
+        name = line.split("#")[0].split(":")[0].split()
         if name:
-            yield name
+            yield name[0]
 
 
 def sizes(crate):
     """Lines of code, definitions, laws and proofs of functions, the edits, and the faults in them, each with one `# ` line."""
     proofs = list(crate.glob("proofs/**/*.antt"))
-    of_functions = [f for f in proofs if f.name == "Proof.antt"]
-    laws = [f for f in proofs if f.name != "Proof.antt"]
+    of_functions = [f for f in proofs if f.name in OF_FUNCTIONS]
+    laws = [f for f in proofs if f.name not in OF_FUNCTIONS]
     edits = [f.read_text() for f in crate.glob("must-fail/*.edit")]
     return (
         lines(crate.glob("src/**/*.rt"), "//"),

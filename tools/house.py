@@ -21,8 +21,10 @@ PICTURE = "docs/house.svg"
 CRATES = "crates.txt"
 
 # The kit's libraries, which stand outside the house.
-KIT = ("std", "check", "libc", "io", "os", "bytes")
+KIT = ("std", "core", "check", "libc", "io", "os", "bytes")
 SHOWN_OF_THE_KIT = ("io", "os", "libc")
+# The word in crates.txt for a static library, which C links and no crate can depend on.
+STATIC = "staticlib"
 PRIMITIVE = re.compile(r"(?:[iu](?:8|16|32|64|size)|f32|f64|bool)$")
 
 # A heading of crates.txt, which begins a floor, and a row of the page's table of floors.
@@ -34,7 +36,9 @@ OUTSIDE_CODE = {
     "rt": re.compile(r'//.*|b?"(?:\\.|[^"\\\n])*"|b?\'(?:\\.|[^\\\'\n])\''),
     "antt": re.compile(r"(?:^|(?<=\s))--.*", re.M),
 }
-RATTLE = re.compile(r"Rattle·([^\s;{,()]*)")
+RATTLE = re.compile(r"(?<![\w.])Rattle\.([^\s;{,()]*)")
+# A word to the prover at a function or type of src/, which names laws and definitions as paths of code.
+HINT = re.compile(r"#!?\[tactic\([^\]]*\)\]")
 USE = re.compile(r"(?:pub )?use ([a-z_]\w*(?:::\w+)*)(?:::\{([\w, ]+)\})?(?: as (\w+))?;")
 PATH = re.compile(r"(?<![\w:])[a-z_]\w*(?:::\w+)+")
 # A stop inside a name, as `x.1`, or a word set as code ends no sentence.
@@ -54,11 +58,12 @@ class Fault(NamedTuple):
 
 
 class Listed(NamedTuple):
-    """A crate's line of crates.txt: its number, the crates and libraries that it names, and its floor, -1 where it has none."""
+    """A crate's line of crates.txt: its number, what it names, its floor, -1 where it has none, and whether it is for C alone."""
 
     line: int
     names: tuple
     floor: int
+    is_static: bool = False
 
 
 class Cited(NamedTuple):
@@ -80,7 +85,7 @@ class Source:
         self.inside = path.relative_to(root / "crates" / crate).as_posix()
         self.text = path.read_text(encoding="utf-8")
         self.code = OUTSIDE_CODE[path.suffix[1:]].sub("", self.text)
-        self.cited = []
+        self.cited, self.hinted = [], []
         self.kit = set()
         self.names = {}
 
@@ -97,7 +102,7 @@ class Source:
         return sentence[0] if sentence else text
 
     def is_proof_of_function(self):
-        return self.kind == "proofs" and self.inside.endswith("/Proof.antt")
+        return self.kind == "proofs" and Path(self.inside).name in figures.OF_FUNCTIONS
 
     def is_list(self):
         """Whether the file only declares the others of its folder."""
@@ -115,6 +120,7 @@ class House:
         for source in self.sources.values():
             read_rattle(self, source)
             if source.kind == "src":
+                read_hints(self, source)
                 read_code(self, source)
 
     def fault(self, file, line, text):
@@ -131,7 +137,7 @@ class House:
 
     def cites(self, crate):
         """The other crates that a crate cites, from low to high."""
-        found = {cited.crate for source in self.of(crate) for cited in source.cited} - {crate}
+        found = {cited.crate for source in self.of(crate) for cited in source.cited + source.hinted} - {crate}
         return sorted(found, key=lambda name: self.place.get(name, -1))
 
 
@@ -147,11 +153,12 @@ def read_crates(text, faults):
         said = line.split("#")[0].strip()
         if not said:
             continue
-        name, colon, names = said.partition(":")
-        if not colon or name.strip() in crates:
+        head, colon, names = said.partition(":")
+        name, *kind = head.split() or [""]
+        if not colon or name in crates or kind not in ([], [STATIC]):
             faults.append(Fault(CRATES, number, f"`{said}` is not a crate's one line, NAME: what it stands on"))
             continue
-        crates[name.strip()] = Listed(number, tuple(names.split()), len(floors) - 1)
+        crates[name] = Listed(number, tuple(names.split()), len(floors) - 1, bool(kind))
     return crates, floors
 
 
@@ -189,16 +196,19 @@ def code_file(house, crate, parts):
 
 
 def rattle_file(house, name):
-    """Crate, kind, file and item of a name behind `Rattle·`: `A.specs.X`, `A·proofs.proofs.Y`, `A.specs.declared.m.T`.
+    """Crate, kind, file and item of a name behind `Rattle.`: `A.specs.X`, `A.proofs.Y`, `A.specs.declared.m.T`; a library of the
+    kit has none of these.
 
-    What is declared stands for src/, and so does what is made from a function, as `A·proofs.proofs.m.f.Statement`.
+    What is declared stands for src/, and so does what is made from a function, as `A.specs.contracts.m.f` and
+    `A.proofs.m.f.Goals`.
     """
-    head, kind, *rest = [*(part for part in name.split(".") if part), "", ""]
-    crate, _, own = head.partition("·")
-    if kind not in ("specs", "proofs") or own not in ("", kind):
+    crate, kind, *rest = [*(part for part in name.split(".") if part), "", ""]
+    if crate in KIT:
+        return ()
+    if kind not in ("specs", "proofs"):
         return None
     rest = [part for part in rest if part]
-    if kind == "specs" and rest[:1] == ["declared"]:
+    if kind == "specs" and rest[:1] in (["declared"], ["contracts"]):
         found = code_file(house, crate, rest[1:])
     elif kind == "specs":
         found = longest_file(house, crate, "specs", rest)
@@ -208,13 +218,13 @@ def rattle_file(house, name):
 
 
 def read_rattle(house, source):
-    """What a file cites by names that begin with `Rattle·`."""
+    """What a file cites by names that begin with `Rattle.`."""
     for match in RATTLE.finditer(source.code):
         line = line_of(source.code, match.start())
         found = rattle_file(house, match[1])
         if found:
             source.cited.append(Cited(line, *found))
-        else:
+        elif found is None:
             house.fault(source.file, line, f"cites `{match[0]}`, and no file of the house has it")
 
 
@@ -229,6 +239,20 @@ def path_file(house, source, parts):
         crate, rest = source.crate, parts[1:] if parts[0] == "crate" else parts
     found = code_file(house, crate, rest)
     return found and (crate, "src", *found)
+
+
+def read_hints(house, source):
+    """What the words to the prover cite, `crate::proofs::M::law`, as a proof would; they are no code."""
+    for match in HINT.finditer(source.code):
+        line = line_of(source.code, match.start())
+        for path in PATH.findall(match[0]):
+            crate, kind, *rest = [*path.split("::"), ""]
+            found = rattle_file(house, ".".join([source.crate if crate == "crate" else crate, kind, *rest]))
+            if found:
+                source.hinted.append(Cited(line, *found))
+            elif found is None:
+                house.fault(source.file, line, f"cites `{path}`, and no file of the house has it")
+    source.code = HINT.sub(lambda match: re.sub(r"[^\n]", " ", match[0]), source.code)
 
 
 def read_code(house, source):
@@ -293,7 +317,7 @@ def parts_of_items(house):
 
 def reached(house, crate, parts):
     """The crates that declare a type of which a value cited by the crate is made: the prover wants them named too."""
-    waiting = [(cited.file, cited.item) for source in house.of(crate) for cited in source.cited]
+    waiting = [(cited.file, cited.item) for source in house.of(crate) for cited in source.cited + source.hinted]
     seen = set()
     while waiting:
         item = waiting.pop()
@@ -322,6 +346,8 @@ def check_list(house):
                 house.fault(CRATES, listed.line, f"{crate} names {name}, and there is no such crate")
             elif house.place[name] >= house.place[crate]:
                 house.fault(CRATES, listed.line, f"{crate} names {name}, which does not stand below it")
+            elif house.crates[name].is_static:
+                house.fault(CRATES, listed.line, f"{crate} names {name}, which is for C alone")
             elif name not in used:
                 house.fault(CRATES, listed.line, f"{crate} names {name} and cites nothing of it")
     for folder in sorted((house.root / "crates").iterdir()):
@@ -333,7 +359,7 @@ def check_between(house):
     """Each citation of another crate: it is named, and stands below, so it is on no higher floor."""
     for source in house.sources.values():
         here, named = source.crate, (*house.crates[source.crate].names, source.crate)
-        for cited in source.cited:
+        for cited in source.cited + source.hinted:
             there = cited.crate
             if there not in named:
                 house.fault(source.file, cited.line, f"cites {there}, which the line of {here} in {CRATES} does not name")
@@ -456,7 +482,7 @@ def rows(house, crate):
 
 
 def proved_by(source):
-    """The functions that a Proof.antt is of: those that call one another have one together, in `+f+g`."""
+    """The functions that a proof is of: those that call one another have one together, in `+f+g`."""
     *above, last = Path(source.inside).parent.parts
     return [(*above, name) for name in last.strip("+").split("+")]
 
