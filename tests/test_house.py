@@ -18,24 +18,24 @@ ROOT = pathlib.Path(__file__).parents[1]
 HOUSE = {
     "crates.txt": "## low\nlists:\n## middle\nshapes: lists\n## high\nreplay: lists shapes io libc\n",
     "crates/lists/src/lib.rt": "// Lists. Nothing else.\npub mod rows;\npub mod words;\n",
-    "crates/lists/src/rows.rt": "// Rows.\nuse crate::words;\nghost use Rattle·lists·specs.specs.Rows.{row};\n"
+    "crates/lists/src/rows.rt": "// Rows.\nuse crate::words;\nghost use Rattle.lists.specs.Rows.{row};\n"
     "pub struct Row(u64);\npub fn put(r: Row) {\n    words::wipe(b\"x::y\");\n}\n",
     "crates/lists/src/words.rt": "// Words | of a room\n// that is lent (RULES 1.1). More.\npub fn wipe() {}\n",
     "crates/lists/specs/Lib.antt": "pub mod Rows\npub mod Base\n",
     "crates/lists/specs/Base.antt": "-- The base.\nbase : N\n",
-    "crates/lists/specs/Rows.antt": "-- Rows.\n-- Assumes nothing.\nuse lib.ListN.{length}\n"
-    "use Rattle·lists·specs.specs.Base.{base}\nuse Rattle·lists·specs.specs.declared.rows.Row.{Row}\n"
-    "use Rattle·lists·specs.specs.declared.rows.Row.the-variants as R\n",
+    "crates/lists/specs/Rows.antt": "-- Rows.\n-- Assumes nothing.\nuse lib.ListN.{length}\nuse Rattle.std.specs.Prelude.{ℕ}\n"
+    "use Rattle.lists.specs.Base.{base}\nuse Rattle.lists.specs.declared.rows.Row.{Row}\n"
+    "use Rattle.lists.specs.declared.rows.Row.TheVariants as R\n",
     "crates/lists/proofs/Lib.antt": "mod Laws\n",
     "crates/lists/proofs/Laws.antt": "-- Laws.\n",
-    "crates/lists/proofs/rows/put/Proof.antt": "-- put.\nuse Rattle·lists·proofs.proofs.Laws.{law}\n"
-    "use Rattle·lists·proofs.proofs.rows.put.Statement.{statement}\nuse Rattle·lists·proofs.proofs.rows.put.Tie as tie\n",
+    "crates/lists/proofs/rows/put/Answers.antt": "-- put.\nuse Rattle.lists.proofs.Laws.{law}\n"
+    "use Rattle.lists.proofs.rows.put.Goals as goal\nuse Rattle.lists.proofs.rows.put.Goals.{After-wipe}\n",
     "crates/shapes/src/lib.rt": "// Shapes.\npub mod leg;\n",
-    "crates/shapes/src/leg.rt": "// Legs.\nuse lists::rows;\nuse lists::rows::Row;\nghost use Rattle·lists.specs.Rows.{row};\n"
+    "crates/shapes/src/leg.rt": "// Legs.\nuse lists::rows;\nuse lists::rows::Row;\nghost use Rattle.lists.specs.Rows.{row};\n"
     "pub struct Leg {\n    row: Row,\n}\npub fn go(l: Leg) {\n    rows::put(l.row);\n}\n",
     "crates/shapes/proofs/Lib.antt": "pub mod Legs\n",
-    "crates/shapes/proofs/Legs.antt": "-- Legs.\nuse Rattle·lists.proofs.Laws.{law}\nuse Rattle·lists.proofs.rows.put.Reads\n"
-    "use Rattle·lists.specs.declared.rows.Row.{Row}\n",
+    "crates/shapes/proofs/Legs.antt": "-- Legs.\nuse Rattle.lists.proofs.Laws.{law}\nuse Rattle.lists.proofs.rows.put.Reads\n"
+    "use Rattle.lists.specs.declared.rows.Row.{Row}\n",
     "crates/replay/src/main.rt": "// Replays.\nmod calls;\nuse calls::Call;\nfn main() {\n    io::write_all(1, b\"\");\n}\n",
     "crates/replay/src/calls.rt": "// Calls.\npub enum Call {\n    One,\n}\nfn f() {\n    shapes::leg::go(u64::max());\n}\n",
     "docs/HOUSE.md": "| Floor | What it is for |\n|---|---|\n| low | lists |\n| middle | legs |\n| high | the program |\n",
@@ -73,32 +73,32 @@ class House(unittest.TestCase):
         files = {s.inside: [c.file.split("/", 2)[2] for c in s.cited] for s in house.of("lists")}
         self.assertEqual(files["src/rows.rt"], ["specs/Rows.antt", "src/words.rt", "src/words.rt"])
         self.assertEqual(files["specs/Rows.antt"], ["specs/Base.antt", "src/rows.rt", "src/rows.rt"])
-        self.assertEqual(files["proofs/rows/put/Proof.antt"], ["proofs/Laws.antt", "src/rows.rt", "src/rows.rt"])
+        self.assertEqual(files["proofs/rows/put/Answers.antt"], ["proofs/Laws.antt", "src/rows.rt", "src/rows.rt"])
         self.assertEqual(house.cites("replay"), ["shapes"])
         self.assertEqual(house.sources["crates/replay/src/main.rt"].kit, {"io"})
 
     def test_a_comment_cites_nothing(self):
-        self.add("crates/lists/src/words.rt", "// see shapes::leg and Rattle·shapes.proofs.Legs\n")
-        self.add("crates/lists/specs/Base.antt", "  -- see Rattle·shapes.proofs.Legs\n")
+        self.add("crates/lists/src/words.rt", "// see shapes::leg and Rattle.shapes.proofs.Legs\n")
+        self.add("crates/lists/specs/Base.antt", "  -- see Rattle.shapes.proofs.Legs\n")
         self.assertEqual(self.faults(), [])
 
     def test_a_citation_of_no_file(self):
-        lines = "use Rattle·lists·specs.specs.Missing.{m}\nuse Rattle·nothing.specs.X.{m}\nuse Rattle·\n"
+        lines = "use Rattle.lists.specs.Missing.{m}\nuse Rattle.nothing.specs.X.{m}\nuse Rattle.\n"
         self.add("crates/lists/specs/Base.antt", lines)
         self.add("crates/lists/src/words.rt", "use crate::missing;\nuse crate::rows as\n")
         self.assertEqual(
             self.faults(),
             [
-                "crates/lists/specs/Base.antt:3: cites `Rattle·lists·specs.specs.Missing.`, and no file of the house has it",
-                "crates/lists/specs/Base.antt:4: cites `Rattle·nothing.specs.X.`, and no file of the house has it",
-                "crates/lists/specs/Base.antt:5: cites `Rattle·`, and no file of the house has it",
+                "crates/lists/specs/Base.antt:3: cites `Rattle.lists.specs.Missing.`, and no file of the house has it",
+                "crates/lists/specs/Base.antt:4: cites `Rattle.nothing.specs.X.`, and no file of the house has it",
+                "crates/lists/specs/Base.antt:5: cites `Rattle.`, and no file of the house has it",
                 "crates/lists/src/words.rt:4: cites `crate::missing`, and no file of the house has it",
                 "crates/lists/src/words.rt:5: `use crate::rows as` is a form of `use` that is not read here",
             ],
         )
 
     def test_an_arrow_upward(self):
-        self.add("crates/lists/proofs/Laws.antt", "use Rattle·shapes.proofs.Legs.{leg}\n")
+        self.add("crates/lists/proofs/Laws.antt", "use Rattle.shapes.proofs.Legs.{leg}\n")
         self.assertEqual(
             self.faults(),
             [
@@ -127,7 +127,7 @@ class House(unittest.TestCase):
 
     def test_a_crate_that_is_reached_and_not_named(self):
         self.write("crates.txt", HOUSE["crates.txt"].replace("replay: lists shapes", "replay: shapes"))
-        self.add("crates/replay/src/calls.rt", "ghost use Rattle·lists.specs.Rows.{row};\n")
+        self.add("crates/replay/src/calls.rt", "ghost use Rattle.lists.specs.Rows.{row};\n")
         self.assertEqual(
             self.faults(),
             ["crates/replay/src/calls.rt:8: cites lists, which the line of replay in crates.txt does not name"],
@@ -152,7 +152,7 @@ class House(unittest.TestCase):
 
     def test_a_new_crate_is_one_line(self):
         self.write("crates.txt", HOUSE["crates.txt"] + "attic: lists\n")
-        self.write("crates/attic/src/lib.rt", "// The attic. More.\nghost use Rattle·lists.specs.Rows.{row};\n")
+        self.write("crates/attic/src/lib.rt", "// The attic. More.\nghost use Rattle.lists.specs.Rows.{row};\n")
         self.assertEqual(self.faults(), [])
         self.assertIn("### attic\n\nThe attic.\n\nCites lists. Cited by no crate.\n", self.run_tool("--list")[1])
 
@@ -181,8 +181,8 @@ class House(unittest.TestCase):
         )
 
     def test_proofs_are_cited_by_proofs_alone(self):
-        self.add("crates/lists/specs/Base.antt", "use Rattle·lists·proofs.proofs.Laws.{law}\n")
-        self.add("crates/shapes/src/leg.rt", "ghost use Rattle·lists.proofs.rows.put.Reads.{r};\n")
+        self.add("crates/lists/specs/Base.antt", "use Rattle.lists.proofs.Laws.{law}\n")
+        self.add("crates/shapes/src/leg.rt", "ghost use Rattle.lists.proofs.rows.put.Reads.{r};\n")
         self.assertEqual(
             self.faults(),
             [
@@ -191,13 +191,44 @@ class House(unittest.TestCase):
             ],
         )
 
+    def test_a_word_to_the_prover_cites_as_a_proof(self):
+        hint = "#[tactic(auto, using(lists::proofs::Laws::law, {}), unfolding(lists::specs::Rows::row))]\npub fn f() {{}}\n"
+        self.add("crates/shapes/src/leg.rt", hint.format("crate::proofs::Legs::leg"))
+        self.assertEqual(self.faults(), [])
+        hinted = tool.check(self.root).sources["crates/shapes/src/leg.rt"].hinted
+        self.assertEqual([(cited.line, cited.file) for cited in hinted], [
+            (11, "crates/lists/proofs/Laws.antt"),
+            (11, "crates/shapes/proofs/Legs.antt"),
+            (11, "crates/lists/specs/Rows.antt"),
+        ])
+        self.write("crates/shapes/src/leg.rt", HOUSE["crates/shapes/src/leg.rt"] + hint.format("crate::proofs::Gone::leg"))
+        self.assertEqual(
+            self.faults(), ["crates/shapes/src/leg.rt:11: cites `crate::proofs::Gone::leg`, and no file of the house has it"]
+        )
+
+    def test_a_word_to_the_prover_runs_not_upward(self):
+        self.add("crates/lists/src/words.rt", "#[tactic(auto, using(shapes::proofs::Legs::leg))]\npub fn f() {}\n")
+        self.assertIn("crates/lists/src/words.rt:4: cites shapes, which stands above lists", self.faults())
+
+    def test_a_static_library(self):
+        lines = HOUSE["crates.txt"] + "lists_c staticlib: lists\n"
+        self.write("crates.txt", lines)
+        self.write("crates/lists_c/src/lib.rt", "// For C.\n#[unsafe(no_mangle)]\npub extern \"C\" fn f() {\n    lists::words::wipe()\n}\n")
+        self.assertEqual(self.faults(), [])
+        self.assertTrue(tool.check(self.root).crates["lists_c"].is_static)
+        self.write("crates.txt", lines + "attic: lists_c\n")
+        self.write("crates/attic/src/lib.rt", "// The attic.\n")
+        self.assertEqual(self.faults(), ["crates.txt:8: attic names lists_c, which is for C alone"])
+        self.write("crates.txt", HOUSE["crates.txt"] + "lists_c static: lists\n")
+        self.assertIn("is not a crate's one line", self.faults()[-1])
+
     def test_a_circle(self):
-        self.add("crates/lists/specs/Base.antt", "use Rattle·lists·specs.specs.Rows.{row}\n")
+        self.add("crates/lists/specs/Base.antt", "use Rattle.lists.specs.Rows.{row}\n")
         self.add("crates/lists/src/words.rt", "use crate::rows;\n")
         self.assertEqual(
             self.faults(),
             [
-                "crates/lists/specs/Rows.antt:4: cites in a circle: Base, Rows, Base",
+                "crates/lists/specs/Rows.antt:5: cites in a circle: Base, Rows, Base",
                 "crates/lists/src/words.rt:4: cites in a circle: rows, words, rows",
             ],
         )
