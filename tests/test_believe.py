@@ -18,11 +18,11 @@ SMALL = {
     "| Stands in | For | Theorem |\n|---|---|---|\n"
     "| `crates/lists/specs/Quick.antt` | the list | `quick-is-plain` of `crates/lists/proofs/Same.antt` |\n\n`lib.Dec`\n",
     "crates/search/specs/Lib.antt": "pub mod Search\n",
-    "crates/search/specs/Search.antt": "-- The search.\nuse lib.Dec.{leb}\nuse Rattle·lists.specs.Quick.{quick}\n"
-    "use Rattle·search·specs.specs.declared.search.Found.{Found}\n\n-- It.\nabbrev pub sought : Found\nsought = quick\n",
+    "crates/search/specs/Search.antt": "-- The search.\nuse lib.Dec.{leb}\nuse Rattle.lists.specs.Quick.{quick}\n"
+    "use Rattle.search.specs.declared.search.Found.{Found}\n\n-- It.\nabbrev pub sought : Found\nsought = quick\n",
     "crates/lists/specs/Quick.antt": "-- Quick.\nabbrev pub quick : N\nquick = one\n",
     "crates/lists/proofs/Same.antt": "pub quick-is-plain : quick ≡ plain\nquick-is-plain = refl\n",
-    "crates/plan_exports/src/calls.rt": "ghost use Rattle·search.specs.Search.{sought};\n",
+    "crates/plan_exports/src/calls.rt": "ghost use Rattle.search.specs.Search.{sought};\n",
 }
 
 
@@ -57,13 +57,13 @@ class Small(unittest.TestCase):
         ])
 
     def test_a_definition_that_a_call_promises_by(self):
-        self.write("crates/plan_exports/src/calls.rt", "ghost use Rattle·taking.specs.Plain.{leg};\n")
+        self.write("crates/plan_exports/src/calls.rt", "ghost use Rattle.taking.specs.Plain.{leg};\n")
         self.assertEqual(self.said(), [
             "crates/plan_exports/src/calls.rt:1: crates/taking/specs/Plain.antt must be believed, and is not on the page"
         ])
 
     def test_a_definition_that_cites_a_proof(self):
-        self.replaced("crates/search/specs/Search.antt", "Rattle·lists.specs.Quick", "Rattle·lists.proofs.Same")
+        self.replaced("crates/search/specs/Search.antt", "Rattle.lists.specs.Quick", "Rattle.lists.proofs.Same")
         self.assertIn("crates/lists/proofs/Same.antt must be believed", self.said()[0])
 
     def test_a_library_of_the_kit(self):

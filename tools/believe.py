@@ -16,12 +16,13 @@ import subprocess
 import sys
 from pathlib import Path
 
-from house import Fault, line_of
+from house import KIT, Fault, line_of
 
 PAGE = "docs/BELIEVE.md"
 # The contracts that people meet: the calls for C and Rust, and what the programs print.
 CALLS = (
     "crates/*_exports/src/*.rt",
+    "crates/*_exports_c/src/*.rt",
     "crates/reply/src/*.rt",
     "crates/plan/src/*.rt",
     "crates/hold_year/src/*.rt",
@@ -33,7 +34,9 @@ STANDS_IN = re.compile(r"^\| `(crates/[^`|]*)`[^|]* \| [^|]* \| ((?:(?:, )?`[\w-
 THEOREM = re.compile(r"`([\w-]+)` of `(crates/[^`]*)`")
 QUOTED = re.compile(r"`([^`]+)`")
 USE = re.compile(r"^(?:pub )?(?:ghost )?use ([^\s;{]+)", re.M)
-OURS = re.compile(r"Rattle·(\w+?)(?:·(specs|proofs))?\.(specs|proofs)\.(\w+)")
+OURS = re.compile(r"Rattle\.(\w+)\.(specs|proofs)\.(\w+)")
+# What the toolchain makes of the code: its types, and the contracts of its functions.
+OF_CODE = ("declared", "contracts")
 DEFINED = re.compile(r"^(?:abbrev |unfoldable )?pub (?:data |record )?([^\s:({]+)", re.M)
 NOT_DEFINED = ("mod", "use", "ruleset", "record", "data")
 
@@ -55,12 +58,12 @@ def cited(root, file):
     for match in USE.finditer(text):
         ours = OURS.match(match[1])
         line = line_of(text, match.start())
-        if not match[1].startswith("Rattle·"):
+        if not ours or ours[1] in KIT:
             yield line, match[1].rstrip("."), None
-        elif ours and ours[3] == "specs" and ours[4] != "declared":
-            yield line, None, root / f"crates/{ours[1]}/specs/{ours[4]}.antt"
-        elif ours and ours[3] == "proofs" and file.parent.name == "specs":
-            yield line, None, root / f"crates/{ours[1]}/proofs/{ours[4]}.antt"
+        elif ours[2] == "specs" and ours[3] not in OF_CODE:
+            yield line, None, root / f"crates/{ours[1]}/specs/{ours[3]}.antt"
+        elif ours[2] == "proofs" and file.parent.name == "specs":
+            yield line, None, root / f"crates/{ours[1]}/proofs/{ours[3]}.antt"
 
 
 class Page:
@@ -148,9 +151,9 @@ def meanings(root, taken=frozenset()):
 
 
 def names_of_the_kit():
-    """What lib.Ieee of the kit defines. The kit's guide stands two folders beside it."""
+    """What lib.Ieee of the kit defines. The kit's guide stands at the top of the kit."""
     guide = subprocess.run(["rt", "doc"], capture_output=True, text=True, check=True).stdout.strip()
-    text = (Path(guide).parents[1] / "logic/Lib/Ieee.antt").read_text(encoding="utf-8")
+    text = (Path(guide).parent / "rattle/logic/Lib/Ieee.antt").read_text(encoding="utf-8")
     return frozenset(name for name in DEFINED.findall(text) if name not in NOT_DEFINED)
 
 

@@ -53,9 +53,10 @@ DECLARED = {
 FUNCTION = re.compile(r'( *)(?:pub(?:\(crate\))? )?(?:extern "C" )?fn (\w+)')
 PUBLIC = re.compile(r" *(?:\w+ )*pub ")
 IMPL = re.compile(r"impl (\w+)")
-CONTRACT = re.compile(r"^\s+(?:ensures|requires) .*?⌝ \}$", re.M | re.S)
-NAMES = re.compile(r"\buse Rattle·([^\s;{]+)\.\{([^}]*)\}")
-ALIAS = re.compile(r"\buse Rattle·([^\s;{]+) as (\w+)")
+# The clauses of a function, up to the line on which its body begins.
+CONTRACT = re.compile(r"^\s+(?:ensures|requires)\b.*?(?=^\s*\{\}?$)", re.M | re.S)
+NAMES = re.compile(r"\buse Rattle\.([^\s;{]+)\.\{([^}]*)\}")
+ALIAS = re.compile(r"\buse Rattle\.([^\s;{]+) as (\w+)")
 TOKEN = re.compile(r"[^\s(){};,⌜⌝]+")
 
 

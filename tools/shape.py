@@ -1,6 +1,7 @@
 #!/usr/bin/env python3
 """Holds the sources of the crates to the house's measures: lines of at most 132 columns, functions of fewer than 40 lines with at
-most eight parameters. The calls for C, and a function that one of them calls, may have more parameters: document 01's lists.
+most eight parameters. The calls for C, here and in their library, and a function that one of these calls, may have more parameters:
+document 01's lists.
 
 Prints each fault with its file and line and ends with status 1, or prints one line of counts.
 """
@@ -17,6 +18,8 @@ ROOT = Path(__file__).resolve().parents[1]
 COLUMNS, LINES, PARAMETERS = 132, 40, 8
 FUNCTION = re.compile(r'^( *)(?:pub(?:\(crate\))? )?(extern "C" )?fn (\w+)\((.*?)\)(?= ->|\s+(?:requires|ensures)\b|\s*\{)', re.M | re.S)
 CALL = re.compile(r"\b(\w+)\(")
+# What the name of a call for C begins with, also in the library that its export is of.
+OF_CALL = "igelbert_"
 
 
 class Function(NamedTuple):
@@ -38,7 +41,7 @@ def functions(file, text):
         begin = opening.end()
         end = text.find(f"\n{indent}}}", begin - 1)
         named = [parameter for parameter in re.split(r",\s*", parameters.strip().rstrip(",")) if parameter]
-        yield Function(file, text.count("\n", 0, found.start()) + 1, name, named, bool(exported), text[begin : max(begin, end)])
+        yield Function(file, text.count("\n", 0, found.start()) + 1, name, named, bool(exported) or name.startswith(OF_CALL), text[begin : max(begin, end)])
 
 
 def faults(sources):
