@@ -1,7 +1,7 @@
 -- The lines of a text of which a beginning was read already.
 -- Assumes nothing.
 use Prim.Native.Nat.{ℕ}
-use mathlib.Core.Path.{◌≡◌, refl, sym, ap}
+use mathlib.Core.Path.{◌≡◌, refl, sym, ap, subst}
 use mathlib.Core.Bool.{Bool, true, false, cond}
 use mathlib.Core.List.{List, [], ◌∷◌, ◌++◌, append_assoc, append-nil}
 use lib.Dec.{eqb}
@@ -38,10 +38,12 @@ pub behind_newline : (begin : List ℕ) (b : ℕ) (text : List ℕ) → eqb b 10
     lines_behind begin (b ∷ text) ≡ begin ∷ without_empty_end (pieces_at 10 text)
 unfolding pieces_at without_empty_end
 behind_newline begin b text newline =
-    rw (newline, append-nil begin)
+    rw newline
+    (subst (λ line. without_empty_end (line ∷ pieces_at 10 text) ≡ begin ∷ without_empty_end (pieces_at 10 text))
+    (sym (append-nil begin))
     (some_piece 10 text
     (λ pieces. without_empty_end (begin ∷ pieces) ≡ begin ∷ without_empty_end pieces)
-    (λ piece pieces. refl))
+    (λ piece pieces. refl)))
 
 -- Any other byte makes the beginning longer.
 pub behind_byte : (begin : List ℕ) (b : ℕ) (text : List ℕ) → eqb b 10 ≡ false →
