@@ -57,6 +57,7 @@ of_three bound z y ys x (Later _ _ (Later _ _ a)) first second behind = behind a
 pub all_under : (z : ℤ) (zs : List ℤ) (x : ℤ) → AmongHolds x (z ∷ zs) → x ≤ℤ largest_of z zs
 unfolding largest_of
 all_under z [] x (Here _) = ≤ℤ_refl z
+all_under z [] x (Later _ _ x6) = elim x6 [ ]
 all_under z (y ∷ ys) x among =
     let larger : ℤ = cond (lt_z z y) y z in
     let above-larger : larger ≤ℤ largest_of larger ys = begun_under larger ys in
