@@ -104,7 +104,7 @@ class Believe(unittest.TestCase):
         self.assertRegex(out.getvalue(), r"^believe: [1-9]\d{3} lines of definitions in \d+ files, \d stand-ins, nothing outside\n$")
 
     def test_the_kit_has_names(self):
-        self.assertLessEqual({"add", "mul", "round", "ofBits"}, tool.names_of_the_kit())
+        self.assertLessEqual({"add", "mul", "round", "of_bits"}, tool.names_of_the_kit())
 
     def test_what_is_cited_is_there(self):
         text = (ROOT / "docs" / "BELIEVE.md").read_text(encoding="utf-8")

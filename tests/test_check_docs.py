@@ -40,7 +40,7 @@ RULES = """# The rules
 HEAD = "| Rule | What | Defined | Proved | Run |\n|---|---|---|---|---|\n"
 # 1.1 has no row: all that covers it is derived
 ROWS = {
-    "1.2": "| 1.2 | two | `crates/a/specs/A.antt` `two-halves` | as cited | as cited |",
+    "1.2": "| 1.2 | two | `crates/a/specs/A.antt` `two_halves` | as cited | as cited |",
     "2.1": "| 2.1 | time | open | by form | by reading |",
     "2.2": "| 2.2 | place | the sum alone; the rest open | by form | by reading |",
     "D1": "| D1 | ends | by form | by form | by form |",
@@ -55,30 +55,30 @@ pub one : N
 one = 1
 
 -- Two halves.
-pub two-halves : N
-two-halves = one
+pub two_halves : N
+two_halves = one
 """
 LAWS = "-- Laws.\n\n-- It is itself (RULES 1.1).\npub itself : one ≡ one\nitself = refl\n  where\n  inner : N\n"
 DIFFERENCES = "| No. | When | Run by |\n|---|---|---|\n| 1 | ever | `it_differs` |\n"
 TEST = "#[test]\nfn it_differs() {}\n"
 CODE = """// Gives (docs/RULES.md, section 2).
-ghost use Rattle·a·specs.specs.A.{one, two-halves};
+ghost use Rattle.a.specs.A.{one, two_halves};
 
 // What is given.
 pub fn give() -> u64
-    ensures { λ r. ⌜ r ≡ one ⌝ }
+    ensures { result ≡ one }
 {
     1
 }
 
-#[no_mangle]
+#[unsafe(no_mangle)]
 pub extern "C" fn igelbert_give() -> u64
-    ensures { λ r. ⌜ r ≡ two-halves ⌝ }
+    ensures { result ≡ two_halves }
 {
     give()
 }
 """
-EDIT = "# none_given: one is given\nrefused: give at give-is\nfile: src/lib.rt\nold: 1\nnew: 0\n"
+EDIT = "# none_given: one is given\nrefused: give at returns\nfile: src/lib.rt\nold: 1\nnew: 0\n"
 PROVED = "extern \"C\" {\n    fn igelbert_give() -> u64;\n}\npub fn given() -> u64 {\n    unsafe { igelbert_give() }\n}\n"
 LAYER = "//! What is given.\npub fn compare() {\n    proved::given();\n}\n"
 
@@ -204,7 +204,7 @@ class CheckDocs(unittest.TestCase):
         )
 
     def test_what_a_row_adds(self):
-        defined = "`crates/a/specs/A.antt` `two-halves`; as a whole: `crates/a/specs/A.antt` `one`"
+        defined = "`crates/a/specs/A.antt` `two_halves`; as a whole: `crates/a/specs/A.antt` `one`"
         self.cover(ROWS | {"1.1": f"| 1.1 | one | {defined} | as cited | by reading |"})
         self.assert_only()
 
@@ -267,7 +267,7 @@ class CheckDocs(unittest.TestCase):
             "## 1.2 Two\n"
             "Proved: crates/a/src/lib.rt igelbert_give\n"
             "Run: oracle/compare/src/layers/gives.rs\n"
-            "Defined, by hand: `crates/a/specs/A.antt` `two-halves`\n",
+            "Defined, by hand: `crates/a/specs/A.antt` `two_halves`\n",
         )
 
     def test_all_rules_or_a_section_are_told(self):
@@ -277,13 +277,13 @@ class CheckDocs(unittest.TestCase):
             self.told("7.7")
 
     def test_shortened(self):
-        long = "`crates/a/specs/A.antt` `one`, `two-halves`; as a whole: `crates/a/specs/A.antt` `one`"
+        long = "`crates/a/specs/A.antt` `one`, `two_halves`; as a whole: `crates/a/specs/A.antt` `one`"
         run = "`oracle/compare/src/layers/gives.rs` `compare`"
         rows = {"1.1": f"| 1.1 | one | {long} | `crates/a/src/lib.rt` `give` | {run}; by reading |", **ROWS}
         self.cover(rows)
         self.told("--shorten")
         said = (self.root / "docs/COVERAGE.md").read_text(encoding="utf-8")
-        short = "`crates/a/specs/A.antt` `two-halves`; as a whole: `crates/a/specs/A.antt` `one`"
+        short = "`crates/a/specs/A.antt` `two_halves`; as a whole: `crates/a/specs/A.antt` `one`"
         rows["1.1"] = f"| 1.1 | one | {short} | as cited | by reading |"
         self.assertEqual(said, "# Coverage\n\n" + HEAD + "\n".join(rows.values()) + "\n")
         self.assert_only()
@@ -306,7 +306,7 @@ class CheckDocs(unittest.TestCase):
         self.assertNotIn(one, self.derived("2.2").definitions)
 
     def test_the_nearest_contract_counts_where_none_names_the_definition(self):
-        self.write("crates/a/src/lib.rt", CODE.replace("r ≡ one", "r ≡ r"))
+        self.write("crates/a/src/lib.rt", CODE.replace("result ≡ one", "result ≡ result"))
         functions = {place.name for place in self.derived("1.1").functions}
         self.assertEqual(functions, {"igelbert_give"})
 

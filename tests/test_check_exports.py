@@ -8,9 +8,9 @@ sys.path.insert(0, str(pathlib.Path(__file__).parents[1] / "tools"))
 import check_exports as tool  # noqa: E402
 
 RATTLE = """
-#[no_mangle]
+#[unsafe(no_mangle)]
 pub extern "C" fn igelbert_f(a: i64, xs: &[f64], s: &[u8], out: &mut [u64]) -> u64
-    ensures { λ r. ⌜ r ≡ 0 ⌝ }
+    ensures { result ≡ 0 }
 {
 """
 HEADER = """

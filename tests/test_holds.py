@@ -13,15 +13,21 @@ ROOT = pathlib.Path(__file__).parents[1]
 class Holds(unittest.TestCase):
     """The script in a folder of its own, whose program says what it was given."""
 
+    BUILDS = "mkdir -p out; printf '#!/bin/sh\\ncat\\n' >out/holds; chmod +x out/holds"
+
     def setUp(self):
         folder = tempfile.TemporaryDirectory()
         self.addCleanup(folder.cleanup)
         self.root = pathlib.Path(folder.name)
         shutil.copy(ROOT / "holds", self.root / "holds")
+        (self.root / "tools").mkdir()
+        shutil.copy(ROOT / "tools/program", self.root / "tools/program")
+        for name in ("crates.txt", "crates/holds/src/main.rt", "crates/holds/stdin"):
+            (self.root / name).parent.mkdir(parents=True, exist_ok=True)
+            (self.root / name).write_text("")
         self.command("tools/preflight", "cat >/dev/null")
-        self.command("bin/rt", "cat >/dev/null; echo proved")
+        self.command("bin/rt", f"cat >/dev/null; echo proved; echo \"$*\" >>'{self.root}/log'; {self.BUILDS}")
         self.command("bin/uname", "echo x86_64")
-        self.command("target/bin/holds", "cat")
         (self.root / "year").write_text("3 1 2\n")
 
     def command(self, name, text):
@@ -39,6 +45,17 @@ class Holds(unittest.TestCase):
     def test_a_file(self):
         ended = self.run_holds("year")
         self.assertEqual((ended.returncode, ended.stdout), (0, "3 1 2\n"))
+
+    def test_a_program_that_stands_is_not_made_again(self):
+        for _ in range(3):
+            self.assertEqual(self.run_holds("year").stdout, "3 1 2\n")
+        log = self.root / "log"
+        self.assertEqual(log.read_text(), "run\n")
+        source = self.root / "crates/holds/src/main.rt"
+        later = (self.root / "crates/holds/out/holds").stat().st_mtime + 1
+        os.utime(source, (later, later))
+        self.run_holds("year")
+        self.assertEqual(log.read_text(), "run\nrun\n")
 
     def test_standard_input(self):
         for arguments in ([], ["-"]):
@@ -58,7 +75,7 @@ class Holds(unittest.TestCase):
             self.assertIn("usage: ./holds [FILE]", ended.stderr)
 
     def test_a_program_that_is_not_proved(self):
-        self.command("bin/rt", "echo NOT PROVED; exit 1")
+        self.command("bin/rt", "echo NOT PROVED >&2; exit 1")
         ended = self.run_holds("year")
         self.assertEqual((ended.returncode, ended.stdout), (1, ""))
         self.assertIn("NOT PROVED", ended.stderr)

@@ -11,7 +11,7 @@ sys.path.insert(0, str(Path(__file__).resolve().parents[1] / "tools"))
 import shape
 
 EIGHT = ", ".join(f"{name}: u64" for name in "abcdefgh")
-SMALL = "// A sum.\npub fn sum(a: u64, b: u64) -> u64\n    ensures { λ r. ⌜ r ≡ a + b ⌝ }\n{\n    a + b\n}\n"
+SMALL = "// A sum.\npub fn sum(a: u64, b: u64) -> u64\n    ensures { result ≡ a + b }\n{\n    a + b\n}\n"
 
 
 def told(text, more=None):
@@ -29,7 +29,7 @@ class Shape(unittest.TestCase):
         self.assertEqual(only.body.strip(), "a + b")
 
     def test_a_method_and_a_function_without_a_contract_are_read(self):
-        text = "impl Leg {\n    pub fn go(self) -> u64\n        ensures { λ r. ⌜ r ≡ 1 ⌝ }\n    {\n        1\n    }\n}\n\nfn none() {\n    go();\n}\n\nfn main() {}\n"
+        text = "impl Leg {\n    pub fn go(self) -> u64\n        ensures { result ≡ 1 }\n    {\n        1\n    }\n}\n\nfn none() {\n    go();\n}\n\nfn main() {}\n"
         self.assertEqual([(f.name, f.body.strip()) for f in shape.functions("a", text)], [("go", "1"), ("none", "go();"), ("main", "")])
 
     def test_a_wide_line_is_named(self):
@@ -47,7 +47,7 @@ class Shape(unittest.TestCase):
 
     def test_a_call_for_c_and_what_it_calls_may_have_more(self):
         text = SMALL.replace("a: u64, b: u64", f"{EIGHT}, i: u64")
-        export = f'pub extern "C" fn igelbert_sum({EIGHT}, i: u64) -> u64\n    ensures {{ λ r. ⌜ r ≡ 1 ⌝ }}\n{{\n    lib::sum(a, b)\n}}\n'
+        export = f'pub extern "C" fn igelbert_sum({EIGHT}, i: u64) -> u64\n    ensures {{ result ≡ 1 }}\n{{\n    lib::sum(a, b)\n}}\n'
         self.assertEqual(told(text, {"crates/b/src/calls.rt": export}), [])
 
     def test_a_long_function_is_named(self):

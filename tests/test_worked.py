@@ -8,12 +8,12 @@ ROOT = pathlib.Path(__file__).parents[1]
 FOOTPRINTS = {"small": "HALF", "middling": "FIVE_EIGHTHS", "large": "TWO_AND_A_HALF"}
 
 # In the definitions: a number, a waypoint, the question, a hint, and a hint with its contour.
-NUMBER = r"\((?:metres|metresBack|eighths) \d+\)|nought"
+NUMBER = r"\((?:metres|metres_back|eighths) \d+\)|nought"
 WAYPOINT = rf"\(on ({NUMBER}) ({NUMBER}) (\d+)\)"
 QUESTION = rf"(walked|asked) (\w+) \(agent ([\d_]+) (\d+)\) {WAYPOINT} {WAYPOINT}".replace(r"(\d+)\)", r"([\d_]+)\)")
 FIELD = re.compile(rf"^  pub [\w-]+ : .*?{QUESTION}(.*?)(?=^  (?:pub|--)|^\S|\Z)", re.M | re.S)
 HINT = re.compile(rf"\bhint ({NUMBER}) ([\d_]+)")
-RANKED = re.compile(rf"\brankedAt \((lasting|early) ([\d_]+)\) ({NUMBER}) ([\d_]+)")
+RANKED = re.compile(rf"\branked_at \((lasting|early) ([\d_]+)\) ({NUMBER}) ([\d_]+)")
 
 # In the oracle.
 EXAMPLE = re.compile(
@@ -27,7 +27,7 @@ def number(text):
     if text == "nought":
         return 0.0
     kind, value = text.strip("()").split()
-    return {"metres": 1.0, "metresBack": -1.0, "eighths": 0.125}[kind] * int(value)
+    return {"metres": 1.0, "metres_back": -1.0, "eighths": 0.125}[kind] * int(value)
 
 
 def whole(text):
