@@ -1,4 +1,4 @@
-"""figures.py counts what says something, and reads rt's seconds."""
+"""figures.py counts what says something."""
 
 import pathlib
 import sys
@@ -24,26 +24,15 @@ class Figures(unittest.TestCase):
         self.write("src/lib.rt", "// about\n\nfn f() {\n}\n")
         self.write("specs/A.antt", "-- about\na : N\na = 1\n")
         self.write("proofs/B.antt", "b : N\n")
-        self.write("proofs/f/Proof.antt", "-- about\nc : N\nc = 1\nd = 2\n")
+        self.write("proofs/f/Answers.antt", "-- about\nc : N\nc = 1\n")
+        self.write("proofs/f/Invariants.antt", "d = 2\n")
         self.write("must-fail/x.edit", "# a: one\nold: x\n\n# b: two\nold: # y\n")
         self.write("must-fail/y.edit", "# c: three\n")
         self.assertEqual(tool.sizes(self.root), (2, 2, 1, 3, 2, 3))
 
     def test_crates_in_order(self):
-        self.write("crates.txt", "# all\nb: c\nc:   # low\n")
-        self.assertEqual(list(tool.crates(self.root)), ["b", "c"])
-
-    def test_the_last_seconds_count(self):
-        log = "rt: a proved (5 s)\nrt: b proved (7 s)\nrt: a proved (6 s)\nrt: ok, 2 crates\n"
-        self.assertEqual(tool.seconds(log), {"a": 6, "b": 7})
-
-    def test_the_seconds_of_edits_are_summed(self):
-        log = (
-            "rt: must-fail a/one: refused, as it must be (first at src/lib.rt:3:1; 4 s)\n"
-            "rt: must-fail a/two: refused, as it must be (5 s)\n"
-            "rt: must-fail b/one: NOT REFUSED: the crate is still proved with this edit (9 s)\n"
-        )
-        self.assertEqual(tool.edit_seconds(log), {"a": 9})
+        self.write("crates.txt", "# all\nb: c\nc:   # low\nd staticlib: c\n")
+        self.assertEqual(list(tool.crates(self.root)), ["b", "c", "d"])
 
 
 if __name__ == "__main__":

@@ -16,20 +16,20 @@ WHO = {f"GIT_{role}_{what}": f"{role}@example.org" for role in ("AUTHOR", "COMMI
 BASE = {
     "crates/a/specs/A.antt": "-- One.\nuse lib.N.{N, zero}\n\n-- The first.\nunfoldable pub one : N\none = zero\n\n"
     "-- The second.\npub record Two : Type where\n  pub left : N\n  pub right : N\n",
-    "crates/a/src/lib.rt": "// A.\nuse lists::rows::Row;\nghost use Rattle·a·specs.specs.A.{one};\n\n"
+    "crates/a/src/lib.rt": "// A.\nuse lists::rows::Row;\nghost use Rattle.a.specs.A.{one};\n\n"
     "pub struct Leg {\n    row: Row,\n}\n\n"
-    "impl Leg {\n    // Goes.\n    pub fn go(self) -> u64\n        ensures { λ r. ⌜ r ≡ one ⌝ }\n    {\n"
+    "impl Leg {\n    // Goes.\n    pub fn go(self) -> u64\n        ensures { result ≡ one }\n    {\n"
     "        1\n    }\n}\n\n"
-    "fn hidden() -> u64\n    ensures { λ r. ⌜ r ≡ one ⌝ }\n{\n    1\n}\n",
+    "fn hidden() -> u64\n    ensures { result ≡ one }\n{\n    1\n}\n",
     "crates/a/proofs/Laws.antt": "-- Laws.\nuse lib.N.{N}\n\n-- It is so.\npub so : N → one ≡ one\nso n = refl\n",
-    "crates/a/proofs/lib/Leg/go/Proof.antt": "-- go.\nproof = refl\n",
+    "crates/a/proofs/lib/Leg/go/Answers.antt": "-- go.\nproof = refl\n",
     "crates/b/specs/B.antt": "-- B.\n\npub three : N\nthree = 3\n",
     "docs/RULES.md": "# Rules\n",
 }
 LOG = """== the gate took {gate} s
-rt: a proved ({a} s)
-rt: b proved (4 s)
-rt: must-fail a/one: refused, as it must be ({edit} s)
+rt: a proved
+rt: ok; handles allowed: none; must-fail edits: 4 refused; {share}
+9 passed, 0 failed
 """
 
 
@@ -83,7 +83,7 @@ class Landing(unittest.TestCase):
     def test_comments_and_layout_do_not_count(self):
         self.edit("crates/a/specs/A.antt", "-- The first.", "-- The very first.")
         self.edit("crates/a/src/lib.rt", "// Goes.", "// It goes.")
-        self.edit("crates/a/proofs/lib/Leg/go/Proof.antt", "proof = refl", "proof =\n    refl  -- so")
+        self.edit("crates/a/proofs/lib/Leg/go/Answers.antt", "proof = refl", "proof =\n    refl  -- so")
         self.assertEqual(self.note().count("None moved."), 4)
 
     def test_a_definition(self):
@@ -98,18 +98,18 @@ class Landing(unittest.TestCase):
         self.assertNotIn(tool.PLACES["promises"], note)
 
     def test_a_promise_and_not_a_body(self):
-        contract = "    ensures { λ r. ⌜ r ≡ one ⌝ }"
+        contract = "    ensures { result ≡ one }"
         self.edit("crates/a/src/lib.rt", "    {\n        1\n", "    {\n        2\n")
-        self.edit("crates/a/src/lib.rt", f"fn hidden() -> u64\n{contract}", "fn hidden() -> u64\n    ensures { λ r. ⌜ 1 ⌝ }")
+        self.edit("crates/a/src/lib.rt", f"fn hidden() -> u64\n{contract}", "fn hidden() -> u64\n    ensures { ⊤ }")
         self.assertEqual(self.note().count("None moved."), 4)
         (self.root / "docs/landings/W2.md").unlink()
-        weaker = "go(self) -> u64\n        ensures { λ r. ⌜ 1 ⌝ }"
+        weaker = "go(self) -> u64\n        ensures { ⊤ }"
         self.edit("crates/a/src/lib.rt", f"go(self) -> u64\n    {contract}", weaker)
         self.assertIn("- a: changed `lib::Leg::go`\n", self.note())
 
     def test_a_law_by_what_it_states(self):
         self.edit("crates/a/proofs/Laws.antt", "so n = refl", "so n = trans refl refl")
-        self.edit("crates/a/proofs/lib/Leg/go/Proof.antt", "refl", "trans")
+        self.edit("crates/a/proofs/lib/Leg/go/Answers.antt", "refl", "trans")
         note = self.note()
         self.assertIn("| a |  |  |  | ~1 |\n", note)
         self.assertIn("- a: changed `lib::Leg::go`\n", note)
@@ -132,21 +132,24 @@ class Landing(unittest.TestCase):
         self.assertNotIn("removed", note)
 
     def test_times(self):
-        self.write("before.log", LOG.format(gate=900, a=7, edit=30))
-        self.write("after.log", LOG.format(gate=950, a=9, edit=31))
+        some = "done in this run: 2 of the 5 proofs (of crates and of their tests); the others are kept from earlier runs"
+        self.write("before.log", LOG.format(gate=900, share="every proof and must-fail edit was done in this run"))
+        self.write("after.log", LOG.format(gate=95, share=some))
         logs = ("--before", str(self.root / "before.log"), "--after", str(self.root / "after.log"))
         note = self.note(*logs)
-        self.assertIn("| the gate, by the clock | 900 s | 950 s |\n", note)
-        self.assertIn("| the proofs of all crates, summed | 11 s | 13 s |\n", note)
-        self.assertIn("| all edits, summed | 30 s | 31 s |\n", note)
-        self.assertIn("Crates whose own proof took another time: a 7 s to 9 s.\n", note)
+        self.assertIn("| the gate, by the clock | 900 s | 95 s |\n", note)
+        self.assertIn(f"| of which | every proof and must-fail edit was done in this run | {some} |\n", note)
 
     def test_times_that_no_log_tells(self):
-        self.write("log/a.out", "rt: a proved (7 s)\n")
-        self.write("log/b.out", "rt: b proved (unchanged since it was last proved)\n")
-        note = self.note("--after", str(self.root / "log"))
-        self.assertIn("| the proofs of all crates, summed | [say: seconds, or not measured] | 7 s |\n", note)
-        self.assertIn("| the gate, by the clock | [say: seconds, or not measured] | [say: seconds, or not measured] |\n", note)
+        self.write("a.log", "rt: a proved\n== the gate took 7 s\n")
+        note = self.note("--after", str(self.root / "a.log"))
+        place = "[say: what the log told, or not measured]"
+        self.assertIn(f"| the gate, by the clock | {place} | 7 s |\n", note)
+        self.assertIn(f"| of which | {place} | {place} |\n", note)
+
+    def test_the_invariants_of_a_function(self):
+        self.write("crates/a/proofs/lib/Leg/go/Invariants.antt", "-- go.\ninvariant = one\n")
+        self.assertIn("- a: added `lib::Leg::go (loops)`\n", self.note())
 
     def test_a_note_is_not_written_over(self):
         self.note()

@@ -1,8 +1,8 @@
 #!/usr/bin/env python3
-"""Prints how large each crate is and how long its proof and its edits took, as a table for docs/FIGURES.md.
+"""Prints how large each crate is, as a table for docs/FIGURES.md.
 
-Lines are those that are neither blank nor a comment alone. Seconds come from the output of `rt ci`
-or `rt prove`, where a file with it is named: tools/figures.py [LOG]
+Lines are those that are neither blank nor a comment alone. `rt` tells no seconds of a crate; those of the whole gate are in what
+`./test` prints.
 """
 
 import argparse
@@ -12,7 +12,8 @@ import sys
 
 ROOT = pathlib.Path(__file__).parents[1]
 # The files of proofs/ that are of one function, in its folder: what its goals are answered by, its loops' invariants, and a walk.
-OF_FUNCTIONS = ("Answers.antt", "Invariants.antt", "Proof.antt")
+OF_LOOPS = "Invariants.antt"
+OF_FUNCTIONS = ("Answers.antt", OF_LOOPS, "Proof.antt")
 
 
 def lines(files, comment):
@@ -45,36 +46,17 @@ def sizes(crate):
     )
 
 
-def seconds(log):
-    """Crate -> seconds, from what rt printed."""
-    found = re.findall(r"^rt: (\w+) proved \((\d+) s\)", log, re.M)
-    return {name: int(taken) for name, taken in found}
-
-
-def edit_seconds(log):
-    """Crate -> seconds of all its edits, from what rt printed."""
-    taken = {}
-    for name, one in re.findall(r"^rt: must-fail (\w+)/\S+: refused, .*?(\d+) s\)$", log, re.M):
-        taken[name] = taken.get(name, 0) + int(one)
-    return taken
-
-
 def main():
-    parser = argparse.ArgumentParser(description=__doc__)
-    parser.add_argument("log", nargs="?", type=pathlib.Path, help="what `rt ci` printed")
-    asked = parser.parse_args()
+    argparse.ArgumentParser(description=__doc__, formatter_class=argparse.RawDescriptionHelpFormatter).parse_args()
     try:
-        log = asked.log.read_text() if asked.log else ""
         rows = [(name, *sizes(ROOT / "crates" / name)) for name in crates(ROOT)]
     except OSError as why:
         sys.exit(f"figures: {why}")
-    proof, edits = seconds(log), edit_seconds(log)
-    print("| Crate | Code | Definitions | Laws | Proofs of functions | Edits | Faults | Seconds | Seconds of its edits |")
-    print("|---|---|---|---|---|---|---|---|---|")
-    for name, *counts in rows:
-        print(f"| {name} | {' | '.join(map(str, counts))} | {proof.get(name, '')} | {edits.get(name, '')} |")
+    print("| Crate | Code | Definitions | Laws | Proofs of functions | Edits | Faults |")
+    print("|---|---|---|---|---|---|---|")
     totals = [sum(column) for column in zip(*(row[1:] for row in rows))]
-    print(f"| all | {' | '.join(map(str, totals))} | {sum(proof.values()) or ''} | {sum(edits.values()) or ''} |")
+    for name, *counts in [*rows, ("all", *totals)]:
+        print(f"| {name} | {' | '.join(map(str, counts))} |")
 
 
 if __name__ == "__main__":

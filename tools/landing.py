@@ -6,7 +6,7 @@
 
 What moved is told by crate: definitions (public types of the code among them), promises (the contracts of public functions), laws
 and the proofs of functions. Comments and layout do not count; that a name of an unchanged text is brought in from elsewhere is
-told. The time of the check before and after is read from what `./test` or `rt ci` printed, or from a folder such as target/log. A
+told. The time of the gate before and after is read from what `./test` printed, with how much of it `rt ci` proved in that run. A
 note has places for sentences; --check fails where one is still empty.
 """
 
@@ -31,6 +31,8 @@ COMMENT = {".antt": re.compile(r"(?:^|(?<=\s))--(?: .*|$)", re.M), ".rt": re.com
 USE = re.compile(r"^(?:pub )?(?:ghost )?use ([^\s;{]+?)(?:(?:\.|::)\{([^}]*)\})?(?: as (\w+))?;?$", re.M)
 BODY = re.compile(r"^\s*\{$", re.M)
 GATE = re.compile(r"^== the gate took (\d+) s$", re.M)
+# The last part of what `rt ci` says where all is well: how much it proved anew, and how much it had kept.
+SHARE = re.compile(r"^rt: ok; .*?; ([^;\n]*proof[^;\n]*(?:; the others [^;\n]*)?)$", re.M)
 
 
 class Bad(Exception):
@@ -140,8 +142,9 @@ def told_by(path, text):
     suffix = Path(path).suffix
     module = "/".join(inside).removesuffix(suffix)
     origins = origins_in(COMMENT[suffix].sub("", text))
-    if folder == "proofs" and inside[-1] == "Proof.antt":
-        yield (crate, "proofs of functions", "::".join(inside[:-1])), said(text, {}, suffix)
+    if folder == "proofs" and inside[-1] in figures.OF_FUNCTIONS:
+        of_loops = " (loops)" if inside[-1] == figures.OF_LOOPS else ""
+        yield (crate, "proofs of functions", "::".join(inside[:-1]) + of_loops), said(text, {}, suffix)
         return
     for item in items_of(path, text, suffix[1:]) if folder == "src" else ():
         if item.text.lstrip().startswith("pub "):
@@ -188,34 +191,21 @@ def moves_between(before, after):
     return found
 
 
-def log_text(log):
-    """What a log says; a folder of logs, as target/log, is read as one."""
-    if log.is_dir():
-        return "\n".join(file.read_text(errors="replace") for file in sorted(log.glob("*.out")))
-    return log.read_text(errors="replace")
-
-
 def times_of(log):
-    """The seconds that a log tells: of the whole gate, of all proofs and of all edits; none where it does not."""
-    gate = GATE.search(log)
-    proofs, edits = figures.seconds(log), figures.edit_seconds(log)
-    return (int(gate[1]) if gate else None, sum(proofs.values()) or None, sum(edits.values()) or None)
+    """What a log tells: the seconds of the whole gate, and how much was proved in that run; none where it does not."""
+    gate, share = GATE.search(log), SHARE.search(log)
+    return f"{gate[1]} s" if gate else None, share[1] if share else None
 
 
 def time_rows(before, after):
     """The table of times, with a place where a log was not named or does not tell one."""
-    names = ("the gate, by the clock", "the proofs of all crates, summed", "all edits, summed")
+    names = ("the gate, by the clock", "of which")
     logs = [times_of(log) if log is not None else (None,) * len(names) for log in (before, after)]
     yield "| | Before | After |"
     yield "|---|---|---|"
-    for name, *seconds in zip(names, *logs):
-        cells = (f"{one} s" if one is not None else "[say: seconds, or not measured]" for one in seconds)
+    for name, *told in zip(names, *logs):
+        cells = (one if one is not None else "[say: what the log told, or not measured]" for one in told)
         yield f"| {name} | {' | '.join(cells)} |"
-    if before is not None and after is not None:
-        old, new = figures.seconds(before), figures.seconds(after)
-        slower = [f"{name} {old[name]} s to {new[name]} s" for name in new if name in old and new[name] != old[name]]
-        yield ""
-        yield f"Crates whose own proof took another time: {', '.join(slower) or 'none'}."
 
 
 def signs(moves):
@@ -296,7 +286,7 @@ def write(given):
     if file.exists():
         raise Bad(f"{FOLDER}/{file.name} is there already, and a note is not written over")
     base, to = (commit_of(given.root, rev) for rev in (given.base, given.to))
-    before, after = (log_text(log) if log else None for log in (given.before, given.after))
+    before, after = (log.read_text(errors="replace") if log else None for log in (given.before, given.after))
     moves = moves_between(read(files_at(given.root, base)), read(files_at(given.root, to)))
     file.parent.mkdir(parents=True, exist_ok=True)
     file.write_text(note(given.name, base, to, moves, before, after), encoding="utf-8")
@@ -308,7 +298,7 @@ def main(arguments=None):
     parser.add_argument("name", nargs="?", help="the note's name, as W2")
     parser.add_argument("--base", metavar="REV", help="the commit that the change starts from")
     parser.add_argument("--to", metavar="REV", default="HEAD", help="the commit that it ends with, HEAD where none is named")
-    parser.add_argument("--before", metavar="LOG", type=Path, help="what `./test` or `rt ci` printed at the base")
+    parser.add_argument("--before", metavar="LOG", type=Path, help="what `./test` printed at the base")
     parser.add_argument("--after", metavar="LOG", type=Path, help="and what it printed at the end")
     parser.add_argument("--check", action="store_true", help="write nothing, and fail where a note has an empty place")
     parser.add_argument("--root", type=Path, default=Path(__file__).resolve().parent.parent, metavar="DIR")
