@@ -155,8 +155,9 @@ def place(contracts, crate):
 
 
 def has_its_own(contracts, crate):
-    """Whether the theorems of a crate stand in itself: those of a program, of which no other crate sees anything, and the samples."""
-    return crate == CLAIM or f"crates/{crate}/src/main.rt" in contracts.house.sources
+    """Whether the theorems of a crate stand in itself: the samples, and what no other crate can depend on, a program or what C links."""
+    house = contracts.house
+    return crate == CLAIM or house.crates[crate].is_static or f"crates/{crate}/src/main.rt" in house.sources
 
 
 def check(root):
