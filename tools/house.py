@@ -87,6 +87,7 @@ class Source:
         self.code = OUTSIDE_CODE[path.suffix[1:]].sub("", self.text)
         self.cited, self.hinted = [], []
         self.kit = set()
+        self.names_of_kit = set()
         self.names = {}
 
     def opening(self):
@@ -276,13 +277,15 @@ def read_use(house, source, line, use):
         cited = add_path(house, source, line, parts)
         if cited:
             source.names[renamed or parts[-1]] = cited
+        elif parts[0] in KIT:
+            source.names_of_kit.add(renamed or parts[-1])
 
 
 def read_path(house, source, line, parts):
-    """A path: what a `use` brought in, with an item of it, or a whole path; a number's own, as `f64::MAX`, is none."""
+    """A path: what a `use` brought in, with an item of it, or a whole path; the kit's, or a number's own, as `f64::MAX`, is none."""
     if parts[0] in source.names:
         source.cited.append(source.names[parts[0]]._replace(line=line, item=parts[1]))
-    elif not PRIMITIVE.match(parts[0]):
+    elif parts[0] not in source.names_of_kit and not PRIMITIVE.match(parts[0]):
         add_path(house, source, line, parts)
 
 
