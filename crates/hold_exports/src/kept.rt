@@ -42,14 +42,19 @@ fn place_of(kind: u64, crew: u64, digits: u64) -> Stands
     }
 }
 
+// How many words a memory has, and the first of them where it was begun.
+const WORDS: usize = 197;
+
+const BEGUN: u64 = 1;
+
 // The reading that a memory holds: it has 197 words or more, the first is 1, and they name a place.
 pub(crate) fn reading_of(memory: &[u64]) -> Kept
     ensures { result ≡ reading_in memory.now }
 {
-    if memory.len() < 197 {
+    if memory.len() < WORDS {
         return Kept::Nothing;
     }
-    if memory[0] != 1 {
+    if memory[0] != BEGUN {
         return Kept::Nothing;
     }
     let stands = place_of(memory[2], memory[3], memory[4]);

@@ -46,12 +46,18 @@ fn put_crew(figures: &mut [u64; 192], crew: usize, rounds: u64, total: u64, larg
     figures[3 * crew + 2] = largest;
 }
 
+// The last crew.
+const LAST_CREW: u64 = 63;
+
+// A crew has no more rounds than a year has lines.
+const MOST_ROUNDS: u64 = 100000;
+
 // Counts a round of a crew, its hold raised by 2^63: 14 for a crew past 63 or with all lines of a year already, 15 where the total
 // would leave the signed numbers of 64 bits.
 pub fn count_round(figures: &mut [u64; 192], crew: u64, hold: u64) -> Counted
     ensures { CountsRound crew hold figures.old figures.new result }
 {
-    if crew > 63 {
+    if crew > LAST_CREW {
         return Counted::Refused(refusals::LINE);
     }
     let at = 3 * crew as usize;
@@ -60,7 +66,7 @@ pub fn count_round(figures: &mut [u64; 192], crew: u64, hold: u64) -> Counted
         put_crew(figures, crew as usize, 1, hold, hold);
         return Counted::Fine;
     }
-    if rounds >= 100000 {
+    if rounds >= MOST_ROUNDS {
         return Counted::Refused(refusals::LINE);
     }
     let sum = raised_sum(figures[at + 1], hold);

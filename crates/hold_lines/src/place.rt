@@ -32,6 +32,9 @@ pub enum Line {
     Broken,
 }
 
+// The last of the digits.
+const NINE: u8 = b'9';
+
 // The first digit of a number.
 fn first_digit(b: u8) -> Digits
     ensures { result ≡ first_digit b }
@@ -39,7 +42,7 @@ fn first_digit(b: u8) -> Digits
     if b < b'0' {
         return Digits::Wrong;
     }
-    if b > b'9' {
+    if b > NINE {
         return Digits::Wrong;
     }
     Digits::Of((b - b'0') as u64)

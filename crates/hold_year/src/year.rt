@@ -35,12 +35,15 @@ pub fn begin() -> Reading
     }
 }
 
+// The most lines of a year.
+const MOST_LINES: u64 = 100000;
+
 // A line ends: it is one too many, is no line, or is counted for its crew.
 fn end_line(reading: Reading, figures: &mut [u64; 192]) -> Fed
     ensures { Goes (line_ended reading figures.old) figures.old figures.new result }
 {
     let lines = reading.lines;
-    if lines >= 100000 {
+    if lines >= MOST_LINES {
         return Fed::Refused(refusals::LINE);
     }
     let place = reading.place;
@@ -65,6 +68,9 @@ fn wipe(figures: &mut [u64; 192])
     *figures = [0; 192];
 }
 
+// A line ends in it.
+const NEWLINE: u8 = b'\n';
+
 // A part of the text, whatever its length. On a refusal the crews' words are zero throughout. While the part is walked the
 // reading's two fields are variables of their own, which stay in registers.
 pub fn feed(reading: Reading, part: &[u8], figures: &mut [u64; 192]) -> Fed
@@ -74,7 +80,7 @@ pub fn feed(reading: Reading, part: &[u8], figures: &mut [u64; 192]) -> Fed
     let mut place = reading.place;
     let mut i = 0;
     while i < part.len() {
-        if part[i] == b'\n' {
+        if part[i] == NEWLINE {
             let fed = end_line(
                 Reading {
                     lines: lines,

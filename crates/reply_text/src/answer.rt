@@ -34,12 +34,15 @@ fn rows_end(room: &[u64], from: usize, n: u64) -> usize
     rows
 }
 
+// What the row of a move begins with.
+const MOVE: u64 = 1;
+
 // Puts the line of the action in row i.
 fn put_action(out: &mut [u8], at: usize, actions: &[u64], i: usize) -> usize
     requires { i < length actions.now / 4 }
     ensures { PutText (action_line (row_at actions.now i)) out.old at out.new result }
 {
-    if actions[4 * i] == 1 {
+    if actions[4 * i] == MOVE {
         return line::put_move(
             out,
             at,

@@ -8,10 +8,10 @@ use Rattle.hold_figures.proofs.Tallying.{counts_grown, counts_stopped}
 use Rattle.hold_figures.proofs.figures.count_round.Goals as goal
 use Rattle.hold_figures.proofs.figures.count_round.Goals.{then-largest-hold, else-largest-hold}
 
-pub returns-then-crew-gt63 : goal.returns-then-crew-gt63
-returns-then-crew-gt63 c =
+pub returns-then-crew-gt-LAST_CREW : goal.returns-then-crew-gt-LAST_CREW
+returns-then-crew-gt-LAST_CREW c =
     let a = c.args in
-    counts_stopped (tallied_past a.figures.now a.crew a.hold c.if-crew-gt63.true)
+    counts_stopped (tallied_past a.figures.now a.crew a.hold c.if-crew-gt-LAST_CREW.true)
 
 pub bounds-figures-at : goal.bounds-figures-at
 bounds-figures-at c = search rules
@@ -22,15 +22,15 @@ put_crew-requires c = search rules
 pub returns-then-rounds-eq0 : goal.returns-then-rounds-eq0
 returns-then-rounds-eq0 c =
     let a = c.args in
-    let first = tallied_first a.figures.now a.crew a.hold c.if-crew-gt63.false c.if-rounds-eq0.true in
+    let first = tallied_first a.figures.now a.crew a.hold c.if-crew-gt-LAST_CREW.false c.if-rounds-eq0.true in
     counts_grown (first ∙ ap Grown (sym c.put_crew.ensures))
 
-pub returns-then-rounds-ge100000 : goal.returns-then-rounds-ge100000
-returns-then-rounds-ge100000 c =
+pub returns-then-rounds-ge-MOST_ROUNDS : goal.returns-then-rounds-ge-MOST_ROUNDS
+returns-then-rounds-ge-MOST_ROUNDS c =
     let a = c.args in
     counts_stopped
-    (tallied_full a.figures.now a.crew a.hold c.if-crew-gt63.false c.if-rounds-eq0.false
-    c.if-rounds-ge100000.true)
+    (tallied_full a.figures.now a.crew a.hold c.if-crew-gt-LAST_CREW.false c.if-rounds-eq0.false
+    c.if-rounds-ge-MOST_ROUNDS.true)
 
 pub bounds-figures-at-2 : goal.bounds-figures-at-2
 bounds-figures-at-2 c = search rules
@@ -40,8 +40,8 @@ returns-in_default c =
     let a = c.args in
     let over = sym c.raised_sum-sum.ensures ∙ c.in_default.is in
     let more =
-    tallied_more a.figures.now a.crew a.hold c.if-crew-gt63.false c.if-rounds-eq0.false
-    c.if-rounds-ge100000.false
+    tallied_more a.figures.now a.crew a.hold c.if-crew-gt-LAST_CREW.false c.if-rounds-eq0.false
+    c.if-rounds-ge-MOST_ROUNDS.false
     in
     counts_stopped (more ∙ ap (grown_by a.figures.now a.crew a.hold) over)
 
@@ -65,6 +65,6 @@ returns c =
     ]
     in
     let more =
-    tallied_more words a.crew a.hold c.if-crew-gt63.false c.if-rounds-eq0.false c.if-rounds-ge100000.false
+    tallied_more words a.crew a.hold c.if-crew-gt-LAST_CREW.false c.if-rounds-eq0.false c.if-rounds-ge-MOST_ROUNDS.false
     in
     counts_grown (more ∙ ap (grown_by words a.crew a.hold) known ∙ ap Grown (rw (← large) (sym c.put_crew-2.ensures)))

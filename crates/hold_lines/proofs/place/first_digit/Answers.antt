@@ -9,10 +9,10 @@ pub returns-then-b-lt48 : goal.returns-then-b-lt48
 unfolding first_digit is_digit
 returns-then-b-lt48 c = rw (lt-leb _ _ c.if-b-lt48.true)
 
-pub returns-then-b-gt57 : goal.returns-then-b-gt57
+pub returns-then-b-gt-NINE : goal.returns-then-b-gt-NINE
 unfolding first_digit is_digit
-returns-then-b-gt57 c = rw (le-leb _ _ c.if-b-lt48.false, lt-leb _ _ c.if-b-gt57.true)
+returns-then-b-gt-NINE c = rw (le-leb _ _ c.if-b-lt48.false, lt-leb _ _ c.if-b-gt-NINE.true)
 
 pub returns : goal.returns
 unfolding first_digit is_digit
-returns c = rw (le-leb _ _ c.if-b-lt48.false, le-leb _ _ c.if-b-gt57.false)
+returns c = rw (le-leb _ _ c.if-b-lt48.false, le-leb _ _ c.if-b-gt-NINE.false)

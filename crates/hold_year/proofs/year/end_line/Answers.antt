@@ -8,8 +8,8 @@ use Rattle.hold_year.specs.declared.year.Reading.{Reading}
 use Rattle.hold_year.proofs.Going.{too_many, no_line, a_line, over_goes, round_refused, round_counted}
 use Rattle.hold_year.proofs.year.end_line.Goals as goal
 
-pub returns-then-lines-ge100000 : goal.returns-then-lines-ge100000
-returns-then-lines-ge100000 c =
+pub returns-then-lines-ge-MOST_LINES : goal.returns-then-lines-ge-MOST_LINES
+returns-then-lines-ge-MOST_LINES c =
     let s : Reading = c.args.reading in
     over_goes (line_ended s _) _ LINE (too_many s _ (omega arith))
 
@@ -21,11 +21,11 @@ returns-in_default c =
 pub returns-in-Refused : goal.returns-in-Refused
 returns-in-Refused c =
     let s : Reading = c.args.reading in
-    rw (a_line s _ c.in-Hold.crew c.in-Hold.hold c.if-lines-ge100000.false (sym c.close-line.ensures ∙ c.in-Hold.is))
+    rw (a_line s _ c.in-Hold.crew c.in-Hold.hold c.if-lines-ge-MOST_LINES.false (sym c.close-line.ensures ∙ c.in-Hold.is))
     (round_refused s.lines c.count_round-counted.ensures _ c.in-Refused.is)
 
 pub returns-in-Fine : goal.returns-in-Fine
 returns-in-Fine c =
     let s : Reading = c.args.reading in
-    rw (a_line s _ c.in-Hold.crew c.in-Hold.hold c.if-lines-ge100000.false (sym c.close-line.ensures ∙ c.in-Hold.is))
+    rw (a_line s _ c.in-Hold.crew c.in-Hold.hold c.if-lines-ge-MOST_LINES.false (sym c.close-line.ensures ∙ c.in-Hold.is))
     (round_counted s.lines c.count_round-counted.ensures c.in-Fine.is)

@@ -12,7 +12,7 @@ use Rattle.hold_year.specs.declared.year.Reading.{Reading}
 use Rattle.hold_year.proofs.Going as G
 use Rattle.hold_year.proofs.Else.{not_broken}
 use Rattle.hold_year.proofs.year.feed.Goals as goal
-use Rattle.hold_year.proofs.year.feed.Goals.{then-part-i-eq10+in-On, else-part-i-eq10+in_default-place}
+use Rattle.hold_year.proofs.year.feed.Goals.{then-part-i-eq-NEWLINE+in-On, else-part-i-eq-NEWLINE+in_default-place}
 
 pub loop-i-init : goal.loop-i-init
 loop-i-init c = (omega arith, refl)
@@ -31,12 +31,12 @@ returns-in_default c =
     G.goes_over (line_ended s l.figures) l.figures c.end_line-fed.new.figures _ n c.end_line-fed.ensures refused
     in
     G.feeds_over a.reading a.part.now a.figures.now _ _ n refused
-    (G.newline_over s l.figures a.part.now l.i c.loop-i-test.true n (eq-eqb _ _ c.if-part-i-eq10.true) over ∙
+    (G.newline_over s l.figures a.part.now l.i c.loop-i-test.true n (eq-eqb _ _ c.if-part-i-eq-NEWLINE.true) over ∙
     l.invariant.1)
     c.wipe.ensures
 
-pub bounds-part-i-else-part-i-eq10 : goal.bounds-part-i-else-part-i-eq10
-bounds-part-i-else-part-i-eq10 c = omega arith
+pub bounds-part-i-else-part-i-eq-NEWLINE : goal.bounds-part-i-else-part-i-eq-NEWLINE
+bounds-part-i-else-part-i-eq-NEWLINE c = omega arith
 
 pub returns-in-Broken : goal.returns-in-Broken
 returns-in-Broken c =
@@ -44,7 +44,7 @@ returns-in-Broken c =
     let a = c.args in
     let s : Reading = record { lines = l.lines; place = l.place } in
     G.feeds_over a.reading a.part.now a.figures.now _ _ LINE refl
-    (G.byte_over s l.figures a.part.now l.i c.loop-i-test.true (ne_eqb _ _ c.if-part-i-eq10.false)
+    (G.byte_over s l.figures a.part.now l.i c.loop-i-test.true (ne_eqb _ _ c.if-part-i-eq-NEWLINE.false)
     (sym c.step-place.ensures ∙ c.in-Broken.is) ∙
     l.invariant.1)
     c.wipe-in-Broken.ensures
@@ -62,17 +62,17 @@ loop-i-preserved c =
     let s : Reading = record { lines = l.lines; place = l.place } in
     let inside = c.loop-i-test.true in (
       omega arith,
-      elim c.if-part-i-eq10.branch [
-        | then-part-i-eq10+in-On v ↦
+      elim c.if-part-i-eq-NEWLINE.branch [
+        | then-part-i-eq-NEWLINE+in-On v ↦
             let t : Reading = v.in-On.next in
             (λ j. fed_by (record { lines = v.lines-is j; place = v.place-is j }) (v.figures-is j) (L.drop (l.i + 1) part)) ∙
-            G.newline_on s l.figures part l.i inside t v.end_line-fed.new.figures (eq-eqb _ _ v.if-part-i-eq10.true)
+            G.newline_on s l.figures part l.i inside t v.end_line-fed.new.figures (eq-eqb _ _ v.if-part-i-eq-NEWLINE.true)
             (G.goes_on (line_ended s l.figures) l.figures v.end_line-fed.new.figures v.end_line-fed.result t v.end_line-fed.ensures
             v.in-On.is) ∙
             l.invariant.1
-        | else-part-i-eq10+in_default-place v ↦
+        | else-part-i-eq-NEWLINE+in_default-place v ↦
             (λ j. fed_by (record { lines = v.lines-is j; place = v.place-is j }) (v.figures-is j) (L.drop (l.i + 1) part)) ∙
-            G.byte_on s l.figures part l.i inside v.step-place.result (ne_eqb _ _ v.if-part-i-eq10.false) v.step-place.ensures
+            G.byte_on s l.figures part l.i inside v.step-place.result (ne_eqb _ _ v.if-part-i-eq-NEWLINE.false) v.step-place.ensures
             (not_broken v.step-place.result v.in_default-place.not-Broken) ∙
             l.invariant.1
       ],
