@@ -1,38 +1,53 @@
 // Reads a year's holds from standard input, part by part, and writes their report (docs/RULES.md, section 21).
 #![tactic(auto)]
 
+ghost use Rattle.std.specs.Prelude.{◌≤◌, IfOk, length};
+
 use hold_year::year::Fed;
 use hold_year::{printing, year};
+use std::io;
+use std::io::{Read, Write};
+
+// Fills the buffer, or as much of it as there is left to read, and says how much that is.
+fn read_full(input: &mut impl Read, buf: &mut [u8]) -> io::Result<usize>
+    ensures { IfOk result (λ n. n ≤ length buf.new) }
+{
+    let mut n = 0;
+    while n < buf.len() {
+        let more = input.read(&mut buf[n..])?;
+        if more == 0 {
+            break;
+        }
+        n += more;
+    }
+    Ok(n)
+}
 
 // Writes the line of a refusal.
-fn refuse(number: u64) {
+fn refuse(output: &mut impl Write, number: u64) -> io::Result<()> {
     let mut text = [0u8; 5386];
     let length = printing::print_refusal(number, &mut text);
-    io::write_all(1, &text[..length]);
+    output.write_all(&text[..length])
 }
 
 // 214 parts have more than 3,500,034 bytes: a text that is as long is refused on the way (`long_refused` of hold_year).
-fn main() {
+fn main(rt: HostRuntime) -> io::Result<()> {
+    let mut input = rt.reader();
+    let mut output = io::writer(&rt);
     let mut figures = [0u64; 192];
     let mut reading = year::begin();
     let mut part = [0u8; 16384];
-    let mut parts = 0u64;
-    while parts < 214 {
-        let n = io::read_full(0, &mut part);
-        let fed = year::feed(reading, &part[..n], &mut figures);
-        match fed {
-            Fed::Refused(number) => {
-                refuse(number);
-                return;
-            }
+    for _ in 0..214u64 {
+        let n = read_full(&mut input, &mut part)?;
+        match year::feed(reading, &part[..n], &mut figures) {
+            Fed::Refused(number) => return refuse(&mut output, number),
             Fed::On(next) => reading = next,
         }
         if n < 16384 {
             break;
         }
-        parts += 1;
     }
     let mut text = [0u8; 5386];
     let length = printing::print_finish(reading, &figures, &mut text);
-    io::write_all(1, &text[..length]);
+    output.write_all(&text[..length])
 }
