@@ -1,7 +1,6 @@
 -- Moves, waits and the hold: what a chain of hints is built into (RULES 13.23 to 13.26).
 -- Assumes nothing.
-use Rattle.std.specs.Prelude.{ℕ, cond, List, [], ◌∷◌, ◌++◌, map, pos, get_or}
-use Rattle.std.specs.Int.Signed.{lt_z}
+use Rattle.std.specs.Prelude.{ℕ, List, [], ◌∷◌, ◌++◌, map, pos, get_or}
 use Rattle.refusals.specs.Names.{STRAYED}
 use Rattle.times.specs.Time.{span_between, span_sum, with_span}
 use Rattle.times.specs.declared.time.Duration.{Duration}
@@ -23,15 +22,13 @@ pub data Built : Type 0 where
   Of : List SafeAction → Duration → Built
   Refused : ℕ → Built
 
--- A wait and the running sum with it are spans (RULES 13.26).
-abbrev pub with_wait : Duration → Span → Span
-with_wait hold (S.Of wait) = span_sum hold wait
-with_wait hold S.Strayed = S.Strayed
-
--- A wait is its end less the arrival. One that ends before the arrival counts zero, and no span is worked out for it (RULES 13.25).
+-- A wait is its end less the arrival; it and the running sum are spans (RULES 13.25, 13.26).
 unfoldable pub hold_after : Duration → TimePoint → TimePoint → Span
-hold_after hold arrival until =
-    cond (lt_z until.0 arrival.0) (S.Of hold) (with_wait hold (span_between arrival until))
+hold_after hold arrival until = by (span_between arrival until)
+  where
+    by : Span → Span
+    by (S.Of wait) = span_sum hold wait
+    by S.Strayed = S.Strayed
 
 -- A hint of the chain: a Move to its place, a Wait there for its obstacle (RULES 13.23).
 unfoldable pub stopped : Trip → Waypoint → WaitHint → Duration → Built

@@ -24,13 +24,10 @@ pub enum Hold {
     Refused(u64),
 }
 
-// A hold with the wait from an arrival until an instant, which counts zero where it ends before the arrival.
+// A hold with the wait from an arrival until an instant.
 fn hold_after(hold: Duration, arrival: TimePoint, until: TimePoint) -> Span
     ensures { result ≡ hold_after hold arrival until }
 {
-    if until.is_before(arrival) {
-        return Span::Of(hold);
-    }
     let waiting = until.since(arrival);
     let Span::Of(wait) = waiting else {
         return Span::Strayed;
