@@ -1,7 +1,7 @@
 #!/usr/bin/env python3
 """Times the program `holds` on a year of 100,000 lines against mawk, which works out the same sums and maxima.
 
-    tools/bench_holds.py [--rounds 15] [--program target/bin/holds] [--mawk MAWK]
+    tools/bench_holds.py [--rounds 15] [--program crates/holds/out/holds] [--mawk MAWK]
 
 Both read the same file and print the same report, in turns, in one run; a line gives the median of the rounds and the ends, the
 ratio also the quartiles. Processor time is user and system time of the whole process. The program is x86-64 code: on another
@@ -28,7 +28,7 @@ from typing import NamedTuple
 import replay_plans
 
 ROOT = pathlib.Path(__file__).parents[1]
-PROGRAM = ROOT / "target" / "bin" / "holds"
+PROGRAM = ROOT / "crates/holds/out/holds"
 LINES = 100_000
 STACK = 64 * 1024
 LEAST_EMULATED = 128 * 1024

@@ -1,5 +1,5 @@
 #!/usr/bin/env python3
-"""Says in words what `plan` answered: target/bin/plan < STREAM | tools/explain.py, or tools/explain.py FILE"""
+"""Says in words what `plan` answered: crates/plan/out/plan < STREAM | tools/explain.py, or tools/explain.py FILE"""
 
 import argparse
 import pathlib

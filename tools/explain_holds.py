@@ -1,5 +1,5 @@
 #!/usr/bin/env python3
-"""Says in words what `holds` reported of a year: target/bin/holds < TEXT | tools/explain_holds.py, or tools/explain_holds.py REPORT
+"""Says in words what `holds` reported of a year: crates/holds/out/holds < TEXT | tools/explain_holds.py, or tools/explain_holds.py REPORT
 
     tools/explain_holds.py [--names NAMES] [--of TEXT] [REPORT]
 

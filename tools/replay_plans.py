@@ -1,7 +1,7 @@
 #!/usr/bin/env python3
 """Runs the program `plan` on every stream of the fixed list, and holds what it writes to the list.
 
-    tools/replay_plans.py [--program target/bin/plan] [--list tests/answers/plans.list]
+    tools/replay_plans.py [--program crates/plan/out/plan] [--list tests/answers/plans.list]
 
 The list is what `oracle replies` prints. The program is x86-64 code; on another machine Debian's emulator runs it.
 """
@@ -60,7 +60,7 @@ def replied(program, stream):
 
 def main():
     parser = argparse.ArgumentParser(description=__doc__, formatter_class=argparse.RawDescriptionHelpFormatter)
-    parser.add_argument("--program", type=pathlib.Path, default=ROOT / "target" / "bin" / "plan")
+    parser.add_argument("--program", type=pathlib.Path, default=ROOT / "crates/plan/out/plan")
     parser.add_argument("--list", type=pathlib.Path, default=ROOT / "tests" / "answers" / "plans.list")
     asked = parser.parse_args()
     differing = count = 0
