@@ -89,7 +89,7 @@ fn try_start(
 }
 
 // Hint i under its parent.
-#[cycle(try_child_try_children_try_hint)]
+#[cycle(hint_search)]
 fn try_hint(
     trip: Trip,
     hints: &[u64; 385],
@@ -124,7 +124,7 @@ fn try_hint(
 }
 
 // A child of hint i, where it is in reach; another is passed over.
-#[cycle(try_child_try_children_try_hint)]
+#[cycle(hint_search)]
 fn try_child(
     trip: Trip,
     hints: &[u64; 385],
@@ -149,7 +149,7 @@ fn try_child(
 }
 
 // The children of hint i, the highest first, then its own start. After each child hint i is popped again.
-#[cycle(try_child_try_children_try_hint)]
+#[cycle(hint_search)]
 fn try_children(
     trip: Trip,
     hints: &[u64; 385],
