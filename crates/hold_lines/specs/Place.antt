@@ -1,4 +1,4 @@
--- How a line is read, one byte after another; `Line-read` of proofs/Line says that this is what the line says.
+-- How a line is read, one byte after another; `line_read` of proofs/Line says that this is what the line says.
 -- Assumes nothing.
 use Rattle.std.specs.Prelude.{ℕ, ◌+◌, ◌-◌, ◌*◌, ◌^◌, cond, not, ◌&&◌, List, [], ◌∷◌, eqb, leb}
 use Rattle.std.proofs.Math.Option.{Option, none, some}
