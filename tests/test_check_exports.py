@@ -2,7 +2,9 @@
 
 import pathlib
 import sys
+import tempfile
 import unittest
+from unittest import mock
 
 sys.path.insert(0, str(pathlib.Path(__file__).parents[1] / "tools"))
 import check_exports as tool  # noqa: E402
@@ -58,6 +60,105 @@ class Exports(unittest.TestCase):
     def test_a_type_that_cannot_pass(self):
         with self.assertRaises(tool.Bad):
             tool.from_rattle(RATTLE.replace("a: i64", "a: Span"))
+
+
+LIBRARY = """// Answers (RULES 1.1).
+ghost use Rattle.std.specs.Prelude.{[], ◌∷◌, length};
+ghost use Rattle.std.specs.Float.Ieee;
+ghost use Rattle.std.specs.Float.{binary64};
+ghost use Rattle.lent.specs.Outcome.{Handed, Refuses};
+
+use lent::words;
+
+fn inner(n: u64) -> u64
+    ensures { Refuses result }
+{
+    n
+}
+
+// The answer.
+// In words.
+pub fn igelbert_f(a: i64, xs: &[f64], out: &mut [u64]) -> u64
+    ensures { Handed (Ieee.of a ∷ [])
+        out.old out.new result }
+{
+    inner(words::of(a))
+}
+"""
+THIN = """// Answers (RULES 1.1).
+ghost use Rattle.std.specs.Prelude.{[], ◌∷◌};
+ghost use Rattle.std.specs.Float.Ieee;
+ghost use Rattle.lent.specs.Outcome.{Handed};
+
+// The answer.
+// In words.
+#[unsafe(no_mangle)]
+pub extern "C" fn igelbert_f(a: i64, xs: &[f64], out: &mut [u64]) -> u64
+    ensures { Handed (Ieee.of a ∷ [])
+        out.old out.new result }
+{
+    f_exports::calls::igelbert_f(a, xs, out)
+}
+"""
+
+
+class Thin(unittest.TestCase):
+    """A static library that is written from its library."""
+
+    def setUp(self):
+        folder = tempfile.TemporaryDirectory()
+        self.addCleanup(folder.cleanup)
+        self.root = pathlib.Path(folder.name)
+        self.write("crates/f_exports/src/lib.rt", "// Calls.\npub mod calls;\npub mod inner;\n")
+        self.write("crates/f_exports/src/inner.rt", "// Inner.\npub fn g() {}\n")
+        self.write("crates/f_exports/src/calls.rt", LIBRARY)
+
+    def write(self, name, text):
+        file = self.root / name
+        file.parent.mkdir(parents=True, exist_ok=True)
+        file.write_text(text, encoding="utf-8")
+
+    def found(self):
+        return list(tool.thin_complaints(self.root))
+
+    def test_what_is_written(self):
+        self.assertEqual(tool.thin_module("f_exports", "calls", LIBRARY), THIN)
+        self.assertEqual(tool.thin_module("f_exports", "inner", "// Inner.\npub fn g() {}\n"), "")
+
+    def test_written_and_held(self):
+        self.assertEqual(len(self.found()), 2)
+        with mock.patch.object(tool.subprocess, "run") as laid_out:
+            tool.write_thin(self.root)
+            tool.write_thin(self.root)
+        self.assertEqual(laid_out.call_count, 1)
+        self.assertEqual(self.found(), [])
+        head = (self.root / "crates/f_exports_c/src/lib.rt").read_text(encoding="utf-8")
+        self.assertTrue(head.endswith("#![tactic(auto)]\n\npub mod calls;\n"), head)
+
+    def test_layout_is_for_the_toolchain_to_say(self):
+        with mock.patch.object(tool.subprocess, "run"):
+            tool.write_thin(self.root)
+        file = "crates/f_exports_c/src/calls.rt"
+        self.write(file, THIN.replace("(a, xs, out)", "(\n        a, xs, out,\n    )").replace("\n        out.old", " out.old"))
+        self.assertEqual(self.found(), [])
+
+    def test_another_clause_or_parameter_or_call(self):
+        with mock.patch.object(tool.subprocess, "run"):
+            tool.write_thin(self.root)
+        file = "crates/f_exports_c/src/calls.rt"
+        for old, new in (("of a ∷", "of 0 ∷"), ("a: i64", "a: u64"), ("(a, xs, out)", "(a, ys, out)"), ("no_mangle", "naked")):
+            self.write(file, THIN.replace(old, new))
+            self.assertEqual(self.found(), [f"{file}: is not what its library says: run tools/check_exports.py --write"], old)
+
+    def test_a_module_too_many(self):
+        with mock.patch.object(tool.subprocess, "run"):
+            tool.write_thin(self.root)
+        self.write("crates/f_exports_c/src/more.rt", THIN)
+        self.assertEqual(self.found(), ["crates/f_exports_c/src/more.rt: is of no module with exports"])
+
+    def test_what_is_not_exported_does_not_count(self):
+        self.assertEqual(tool.from_rattle(THIN.replace("#[unsafe(no_mangle)]\n", "")), {})
+        self.assertEqual(list(tool.from_rattle(THIN)), ["igelbert_f"])
 
 
 REFUSALS = """

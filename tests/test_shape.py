@@ -50,6 +50,12 @@ class Shape(unittest.TestCase):
         export = f'pub extern "C" fn igelbert_sum({EIGHT}, i: u64) -> u64\n    ensures {{ result ≡ 1 }}\n{{\n    lib::sum(a, b)\n}}\n'
         self.assertEqual(told(text, {"crates/b/src/calls.rt": export}), [])
 
+    def test_a_call_in_its_library_and_what_it_calls_may_have_more(self):
+        text = SMALL.replace("a: u64, b: u64", f"{EIGHT}, i: u64")
+        call = f"pub fn igelbert_sum({EIGHT}, i: u64) -> u64\n    ensures {{ result ≡ 1 }}\n{{\n    lib::sum(a, b)\n}}\n"
+        self.assertEqual(told(text, {"crates/b/src/calls.rt": call}), [])
+        self.assertEqual(len(told(text, {"crates/b/src/calls.rt": call.replace("igelbert_sum", "other_sum")})), 2)
+
     def test_a_long_function_is_named(self):
         body = "".join(f"    let x{n} = {n};\n" for n in range(39))
         self.assertEqual(told(SMALL.replace("    a + b\n", body)), [])
