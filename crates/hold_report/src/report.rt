@@ -24,7 +24,8 @@ fn put_lowered(out: &mut [u8], at: usize, raised: u64) -> usize
 // Puts the mean of a raised total over so many rounds, rounded down, and what is left above it.
 fn put_mean(out: &mut [u8], at: usize, total: u64, rounds: u64) -> usize
     requires { 0 < rounds }
-    ensures { PutText (time_field (word_of (mean_of (lowered_of total) rounds)) ++ count_field (remainder_of (lowered_of total) rounds))
+    ensures { PutText
+        (time_field (word_of (mean_of (lowered_of total) rounds)) ++ count_field (remainder_of (lowered_of total) rounds))
         out.old at out.new result }
 {
     if total < 9223372036854775808 {
