@@ -1,0 +1,71 @@
+-- `plan_making::linear_paths::plan_times` meets its contract: the refusal of the search, or the plan for the times that it lists; 289
+-- places are enough for them.
+-- Assumes nothing.
+use Prim.Native.Nat.{◌≤◌}
+use mathlib.Core.Path.{◌≡◌, sym, ◌∙◌}
+use native.Mathlib.Omega.{arith}
+use lib.ListN.{length, take}
+use lib.Seq.{length-take-le}
+use Rattle.table.specs.Table.{obstacles_in}
+use Rattle.hint_list.specs.Words.{hints_in}
+use Rattle.hint_list.proofs.Reading.{counted}
+use Rattle.plan_model.specs.Plan.{paths_for, instants_of, paths_planned, times_planned}
+use Rattle.arrival_times.proofs.Few.{few_listed}
+use Rattle.plan_making.proofs.Among.{told_refused, told_few, told_listed}
+use Rattle.plan_making.proofs.Fewer.{times_count, found_few}
+use Rattle.plan_making.proofs.linear_paths.plan_times.Goals as goal
+use Rattle.plan_making.proofs.linear_paths.plan_times.Goals.{In-Listed}
+
+-- The times that are listed are at most 289, and all stand in the list.
+listed : (c : In-Listed) →
+    (c.in-Listed.count ≤ 289) × (c.in-Listed.count ≤ length c.compute_safe_arrival_times-arrivals.new.list)
+listed c =
+    let call = c.compute_safe_arrival_times-arrivals in
+    let few = told_few call.ensures c.in-Listed.is in
+    let same = call.auto.list in
+    (omega arith, omega arith)
+
+pub slice_bounds-list-end : goal.slice_bounds-list-end
+slice_bounds-list-end c = (listed (goal.at.slice_bounds-list-end c).In-Listed).1
+
+pub slice_bounds-put_paths-end : goal.slice_bounds-put_paths-end
+slice_bounds-put_paths-end c = sym (length-take-le _ _ (listed (goal.at.slice_bounds-put_paths-end c).In-Listed).1)
+
+pub put_paths-put-requires : goal.put_paths-put-requires
+put_paths-put-requires c =
+    let left = c.compute_safe_arrival_times-arrivals.new.list in
+    omega (arith, (listed (goal.at.put_paths-put-requires c).In-Listed).0, length-take-le c.in-Listed.count left (listed (goal.at.put_paths-put-requires c).In-Listed).1)
+
+-- As many times are read as are listed.
+counts : (c : In-Listed) →
+    let left = c.compute_safe_arrival_times-arrivals.new.list in
+    length (instants_of (take c.in-Listed.count left)) ≡ c.in-Listed.count
+counts c = times_count _ _ (listed c).1
+
+pub finish-requires : goal.finish-requires
+finish-requires c found many e =
+    let few = found_few _ _ _ _ _ c.put_paths-put.ensures e in
+    omega (arith, (listed (goal.at.finish-requires c).In-Listed).0, counts (goal.at.finish-requires c).In-Listed)
+
+pub returns-in-Refused : goal.returns-in-Refused
+unfolding times_planned
+returns-in-Refused c =
+    let a = c.args in
+    let os = obstacles_in a.marks.now a.places.now in
+    let told = c.compute_safe_arrival_times-arrivals.ensures in
+    rw
+    (told_refused told _ c.in-Refused.is (λ l m e.
+    few_listed a.trip.profile a.trip.leg.end os l m c.requires e))
+    c.refuse.ensures
+
+pub returns-in-Listed : goal.returns-in-Listed
+unfolding times_planned paths_planned
+returns-in-Listed c =
+    let a = c.args in
+    let os = obstacles_in a.marks.now a.places.now in
+    let times = instants_of (take c.in-Listed.count c.compute_safe_arrival_times-arrivals.new.list) in
+    let answer = paths_for a.trip os (hints_in a.hints.now) a.budget times in
+    let hints : length (hints_in a.hints.now) ≡ c.count_of-n.result =
+    counted a.hints.now ∙ sym c.count_of-n.ensures in
+    rw (told_listed c.compute_safe_arrival_times-arrivals.ensures c.in-Listed.is _, hints, counts (goal.at.returns-in-Listed c).In-Listed)
+    (c.finish.ensures answer a.paths.now a.actions.now c.put_paths-put.ensures)
