@@ -90,6 +90,16 @@ class Contracts(unittest.TestCase):
         (self.root / "crates/lists/out/rlib/lists.rlib/interface/toolchain/mir.json").unlink()
         self.assertIn("`lists` is not proved", self.said("--built")[1][0])
 
+    def test_what_c_links_has_theorems_of_its_own(self):
+        self.write("crates.txt", CRATES + "lists_c staticlib: settling lists\n")
+        self.write("crates/lists_c/src/lib.rt", "// For C.\npub fn count() -> u64\n    ensures { result ≡ 1 }\n{\n    1\n}\n")
+        (self.root / "crates/lists_c/proofs").mkdir()
+        self.assertEqual(self.said()[0], 0)
+        own = (self.root / "crates/lists_c/proofs/Public.antt").read_text(encoding="utf-8")
+        self.assertIn("pub count_determined :\n", own)
+        self.assertNotIn("lists_c", (self.root / tool.LIST).read_text(encoding="utf-8"))
+        self.assertEqual(self.said("--built")[0], 0)
+
     def test_nothing_promised(self):
         self.write("crates/lists/src/words.rt", "// Words.\npub fn open() -> u64 {\n    1\n}\n")
         text = "`lists::words::open` promises by 0 clauses, and there is no lemma for so many"

@@ -178,20 +178,21 @@ def check(root):
 
 
 def built(root):
-    """The same, compared with what the toolchain says is public."""
+    """The same, compared with what the toolchain says is public of each library; what no crate depends on is made into none."""
     contracts = check(root)
     stated = {function.name: function for function in contracts.all}
     public = set()
+    libraries = {name for listed in contracts.house.crates.values() for name in listed.names}
     for crate in contracts.house.crates:
         interface = root / f"crates/{crate}/out/rlib/{crate}.rlib/interface/toolchain/mir.json"
         if interface.is_file():
             public.update(name for name, _ in json.loads(interface.read_text(encoding="utf-8")))
-        elif (root / f"crates/{crate}/src/lib.rt").is_file():
+        elif crate in libraries:
             contracts.fault(CRATES, 1, f"`{crate}` is not proved, so what is public there is not known")
     for name in sorted(public - stated.keys()):
         contracts.fault(LIST, 1, f"`{name}` is public, and there is no theorem on it")
     for name in sorted(stated.keys() - public):
-        if (root / f"crates/{stated[name].crate}/src/lib.rt").is_file():
+        if stated[name].crate in libraries:
             contracts.fault(stated[name].file, stated[name].line, f"`{name}` is not among what the toolchain says is public")
     return contracts
 
