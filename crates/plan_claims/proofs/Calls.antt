@@ -1,6 +1,5 @@
 -- The hints and the arrival times of a plan are those that the calls for them alone answer (RULES 5.1, 13.1).
 -- Assumes nothing.
-use Prim.Native.Nat.{◌≤◌}
 use mathlib.Core.Path.{◌≡◌}
 use mathlib.Core.Bool.{false}
 use lib.Signed.{≤ℤ_refl}

@@ -27,7 +27,6 @@ use Rattle.hint_list.specs.declared.hint.WaitHint.{WaitHint}
 use Rattle.path_search.specs.declared.trial.Trial.{Trial}
 use Rattle.path_search.specs.declared.trial.Trial.TheVariants as T
 use Rattle.path_tests.specs.Tests.{to_end, to_goal, waits_at, from_start}
-use Rattle.path_tests.specs.Travel as Travel
 use Rattle.path_tests.specs.Travel.{waypoint_at, hint_waypoint, reached_from, with_reached}
 use Rattle.path_tests.specs.Way.{way_of, next, both_ways}
 use Rattle.path_tests.specs.declared.travel.Reached.{Reached}
@@ -62,71 +61,66 @@ reached_there speed from place {w} =
 -- ---- What is built.
 
 -- A hint of a path: the waypoint that the agent reaches, and the actions behind it, from the hint on.
-pub record Stop (trip : Trip) (from : Waypoint) (start : Duration) (h : WaitHint) (hs : List WaitHint) (actions : List SafeAction)
-    (hold : Duration) : Type 0 where
+pub record Stop (trip : Trip) (from : Waypoint) (h : WaitHint) (hs : List WaitHint) (actions : List SafeAction) (hold : Duration) :
+    Type 0 where
   pub arrival : Waypoint
   pub reached : reached_from trip.speed from h.place ≡ W.At arrival
   pub rest : List SafeAction
   pub same : actions ≡ Move arrival ∷ (Wait h.obstacle h.until ∷ rest)
   pub sum : Duration
-  pub summed : hold_after start arrival.time h.until ≡ S.Of sum
   pub behind : built trip (hint_waypoint h) sum hs ≡ Of rest hold
 
 -- The end of a path: the agent reaches the goal's place.
-pub record Arrived (trip : Trip) (from : Waypoint) (start : Duration) (actions : List SafeAction) (hold : Duration) : Type 0 where
+pub record Arrived (trip : Trip) (from : Waypoint) (actions : List SafeAction) : Type 0 where
   pub arrival : Waypoint
   pub reached : reached_from trip.speed from (place_of trip.leg.end) ≡ W.At arrival
   pub same : actions ≡ Move arrival ∷ []
-  pub kept : start ≡ hold
 
 module _ (trip : Trip) (from : Waypoint) (start : Duration) {actions : List SafeAction} {hold : Duration} where
   not_built : {n : ℕ} → Refused n ≡ Of actions hold → ⊥
   not_built e = true≢false (cc e)
 
   pub stop : (h : WaitHint) (hs : List WaitHint) → built trip from start (h ∷ hs) ≡ Of actions hold →
-      Stop trip from start h hs actions hold
+      Stop trip from h hs actions hold
   unfolding built stopped
   stop h hs = by (reached_from trip.speed from h.place) refl
     where
       waiting : Waypoint → Duration → Built
       waiting w sum = Of (Move w ∷ (Wait h.obstacle h.until ∷ [])) sum
 
-      on : (w : Waypoint) → reached_from trip.speed from h.place ≡ W.At w → (sum : Duration) →
-          hold_after start w.time h.until ≡ S.Of sum → (b : Built) →
+      on : (w : Waypoint) → reached_from trip.speed from h.place ≡ W.At w → (sum : Duration) (b : Built) →
           built trip (hint_waypoint h) sum hs ≡ b → in_front (Move w ∷ (Wait h.obstacle h.until ∷ [])) b ≡ Of actions hold →
-          Stop trip from start h hs actions hold
-      on w reached sum summed (Of rest end) behind e =
+          Stop trip from h hs actions hold
+      on w reached sum (Of rest end) behind e =
           record {
             arrival = w;
             reached = reached;
             rest = rest;
             same = cc e;
             sum = sum;
-            summed = summed;
             behind = behind ∙ cc e;
           }
-      on w reached sum summed (Refused n) behind e = absurd (not_built e)
+      on w reached sum (Refused n) behind e = absurd (not_built e)
 
-      held : (w : Waypoint) → reached_from trip.speed from h.place ≡ W.At w →
-          (s : Span) → hold_after start w.time h.until ≡ s →
+      held : (w : Waypoint) → reached_from trip.speed from h.place ≡ W.At w → (s : Span) →
           and_on (with_span (Refused 7) s (waiting w)) (λ sum. built trip (hint_waypoint h) sum hs) ≡ Of actions hold →
-          Stop trip from start h hs actions hold
-      held w reached (S.Of sum) summed e = on w reached sum summed (built trip (hint_waypoint h) sum hs) refl e
-      held w reached S.Strayed summed e = absurd (not_built e)
+          Stop trip from h hs actions hold
+      held w reached (S.Of sum) e = on w reached sum (built trip (hint_waypoint h) sum hs) refl e
+      held w reached S.Strayed e = absurd (not_built e)
 
       by : (r : Reached) → reached_from trip.speed from h.place ≡ r →
           and_on (with_reached Refused r (λ w. with_span (Refused 7) (hold_after start w.time h.until) (waiting w)))
-          (λ sum. built trip (hint_waypoint h) sum hs) ≡ Of actions hold → Stop trip from start h hs actions hold
-      by (W.At w) reached e = held w reached (hold_after start w.time h.until) refl e
+          (λ sum. built trip (hint_waypoint h) sum hs) ≡ Of actions hold → Stop trip from h hs actions hold
+      by (W.At w) reached e = held w reached (hold_after start w.time h.until) e
       by (W.Refused n) reached e = absurd (not_built e)
 
-  pub arrived : built trip from start [] ≡ Of actions hold → Arrived trip from start actions hold
+  pub arrived : built trip from start [] ≡ Of actions hold → Arrived trip from actions
   unfolding built ended
   arrived = by (reached_from trip.speed from (place_of trip.leg.end)) refl
     where
       by : (r : Reached) → reached_from trip.speed from (place_of trip.leg.end) ≡ r →
-          with_reached Refused r (λ w. Of (Move w ∷ []) start) ≡ Of actions hold → Arrived trip from start actions hold
-      by (W.At w) reached e = record { arrival = w; reached = reached; same = cc e; kept = cc e }
+          with_reached Refused r (λ w. Of (Move w ∷ []) start) ≡ Of actions hold → Arrived trip from actions
+      by (W.At w) reached e = record { arrival = w; reached = reached; same = cc e }
       by (W.Refused n) reached e = absurd (not_built e)
 
 -- ---- What is tested.
