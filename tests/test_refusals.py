@@ -158,7 +158,8 @@ class Refusals(unittest.TestCase):
         self.assert_fault(1, "`a line` of `proofs/Other.antt` is refused, and no fault names it")
 
     def test_a_function_without_a_proof_file(self):
-        text = "fn a::time::TimePoint::since: no proof: expected answers in y; `search` did not prove `sub_d` and `returns-then-d`\n"
+        text = "fn a::time::TimePoint::since: no proof: expected answers in y; `search` did not prove `sub_d` and `returns-then-d`"
+        text += "; it calls `a::time::plus`, which is not proved\n"
         self.log(WITHOUT_SINCE + text)
         self.assertEqual(self.said()[0], 0)
 

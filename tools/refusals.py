@@ -37,7 +37,7 @@ ERROR = re.compile(r"(?:\./)?((?:src|specs|proofs)/[^:\s]+):\d+:\d+: error: (?:`
 # A goal that was left to the prover's own search, at a place of the code.
 UNPROVED = re.compile(r"note: (?:\./)?(src/[^:\s]+):(\d+):\d+: it is not proved that .*\(`([^`]+)`\)")
 # A function that has no proof file.
-NO_PROOF = re.compile(r"fn \w+::(\S+): no proof: .*`search` did not prove (.*)")
+NO_PROOF = re.compile(r"fn \w+::(\S+): no proof: .*`search` did not prove ([^;]*)")
 RESTS_ON_ANOTHER = re.compile(r"was not admitted|which was (?:rejected|not admitted)")
 UNFIT = re.compile(r"\bhas no (?:field )?`|\bis not in scope")
 # What `rt ci` and `rt must-fail` say of an edit.
