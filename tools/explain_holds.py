@@ -19,7 +19,7 @@ from typing import NamedTuple
 
 import replay_plans
 
-PROGRAM = pathlib.Path(__file__).parents[1] / "target" / "bin" / "holds"
+PROGRAM = pathlib.Path(__file__).parents[1] / "crates/holds/out/holds"
 CREWS = 64
 LINES = 100_000
 MOST, LEAST = 2**63 - 1, -(2**63)
