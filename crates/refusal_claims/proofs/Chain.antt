@@ -64,8 +64,8 @@ module _ (N : ℕ → Type 0) (eleven : N 11) where
   past_searches false = tt
 
   module _ (to_parent : ℕ → Option ℕ → Trial) (from_start : ℕ → Trial) (reaches : ℕ → ℕ → Bool)
-      (to-parent : (i : ℕ) (parent : Option ℕ) → Tests N (to_parent i parent))
-      (from_start : (i : ℕ) → Tests N (from_start i)) (budget : ℕ) where
+      (way_tested : (i : ℕ) (parent : Option ℕ) → Tests N (to_parent i parent))
+      (start_tested : (i : ℕ) → Tests N (from_start i)) (budget : ℕ) where
     abbrev children : ℕ → ℕ → ℕ → Tried
     children = R.try_children to_parent from_start reaches budget
 
@@ -75,11 +75,11 @@ module _ (N : ℕ → Type 0) (eleven : N 11) where
     hint_tries : (f : ℕ → Tried) → ((q : ℕ) → Tries (f q)) → (i : ℕ) (parent : Option ℕ) (p : ℕ) → Tries (hint_by f i parent p)
     hint_tries f h i parent p =
         let t : Trial = to_parent i parent in
-        popped_tries (leb budget p) (arrived_by t f) p (λ q. arrived_tries t f q (to-parent i parent) h)
+        popped_tries (leb budget p) (arrived_by t f) p (λ q. arrived_tries t f q (way_tested i parent) h)
 
     children_try : (i k p : ℕ) → Tries (children i k p)
     unfolding R.try_children
-    children_try i zero p = started_tries (from_start i) i p (from_start i)
+    children_try i zero p = started_tries (from_start i) i p (start_tested i)
     children_try i (suc k) p =
         let child : ℕ → Tried = hint_by (children k k) k (some i) in
         after_tries (offer (reaches k i) child p) i (λ q. popped (leb budget q) (children i k) q)

@@ -34,7 +34,6 @@ use Rattle.segments.specs.Segment.{segment_of}
 use Rattle.segments.proofs.Safe.{refused}
 use Rattle.path_search.specs.declared.trial.Trial.{Trial}
 use Rattle.path_search.specs.declared.trial.Trial.TheVariants as T
-use Rattle.path_roots.specs.Roots as Roots
 use Rattle.path_roots.specs.Roots.{lateness, goal_contour}
 use Rattle.path_tests.specs.Tests.{to_end, to_goal, waits_at, from_start, stays_till, straight}
 use Rattle.path_tests.specs.Travel.{waypoint_at, reached_from, with_reached}

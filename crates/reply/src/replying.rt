@@ -13,7 +13,7 @@ use texts::room::Told;
 // 1,891 lines, and each of them at most 87 bytes.
 pub fn reply(s: &[u8], out: &mut [u8]) -> Told
     ensures tells { Tells (stream_reply s.now) out.old out.new result }
-    ensures s_len_bound { length (stream_text s.now) ≤ 164517 }
+    ensures few_bytes { length (stream_text s.now) ≤ 164517 }
 {
     let mut paths = [0u64; 1160];
     let mut actions = [0u64; 6400];
@@ -26,8 +26,8 @@ pub fn reply(s: &[u8], out: &mut [u8]) -> Told
 
 // What is printed, in a room that holds the longest text: how long it is. A refusal leaves the room zero, and its line is put.
 pub fn whole_reply(s: &[u8], out: &mut [u8; 164517]) -> usize
-    ensures value { result ≡ length (stream_text s.now) }
-    ensures out_after { out.new ≡ stream_text s.now ++ replicate (164517 - length (stream_text s.now)) 0 }
+    ensures count { result ≡ length (stream_text s.now) }
+    ensures room { out.new ≡ stream_text s.now ++ replicate (164517 - length (stream_text s.now)) 0 }
 {
     match reply(s, out) {
         Told::Text(length) => length,

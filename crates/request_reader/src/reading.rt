@@ -53,8 +53,8 @@ pub(crate) fn put_obstacles(
     marks: &mut [u64; 417],
     places: &mut [f64; 800],
 )
-    requires obstacles_value { are_counted (obstacles_at s.now 510 obstacles) ≡ true }
-    requires marks_len { (length marks.old ≡ 417) × (length places.old ≡ 800) }
+    requires counted { are_counted (obstacles_at s.now 510 obstacles) ≡ true }
+    requires shaped { (length marks.old ≡ 417) × (length places.old ≡ 800) }
     ensures { PutTable (obstacles_at s.now 510 obstacles) marks.new places.new }
 {
     filling::put_count(marks, obstacles);
