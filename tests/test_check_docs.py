@@ -404,6 +404,7 @@ class CheckDocs(unittest.TestCase):
 
     def test_built_files_are_left_alone(self):
         self.write("oracle/target/debug/t.rs", "// RULES 9.9\n")
+        self.write("crates/a/out/generated/A.antt", "-- RULES 9.9\n")
         self.assert_only()
 
     def test_other_numbers_are_no_citations(self):

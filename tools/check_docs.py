@@ -91,7 +91,7 @@ def check_citations(root, rules, sections, faults):
     files = sorted({file for pattern in CITING for file in root.glob(pattern)})
     for file in files:
         name = file.relative_to(root)
-        if "target" in name.parts or not file.is_file():
+        if {"target", "out"} & set(name.parts) or not file.is_file():
             continue
         text = file.read_text(encoding="utf-8", errors="replace")
         for cited in CITED.finditer(text):
