@@ -111,7 +111,7 @@ class RustSource(unittest.TestCase):
 class Gate(unittest.TestCase):
     """The script `test` in a folder of its own, where every command only notes that it was called."""
 
-    TOOLS = ["preflight", "rust-source", "check-answers", "static-libraries"]
+    TOOLS = ["preflight", "rust-source", "check-answers", "static-libraries", "changed"]
     OK = "rt: ok; handles allowed: none; must-fail edits: 3 refused"
     VERDICT = f"{OK}; every proof and must-fail edit was done in this run\n3 passed, 0 failed"
 
@@ -132,8 +132,7 @@ class Gate(unittest.TestCase):
         self.command("holds", "cat examples/year.report")
         self.file("examples/year.holds")
         self.file("examples/year.report", "ok 0\n")
-        self.file("crates.txt", "# the lowest first\n## floor\na:\nb_c staticlib: a\n")
-        for crate in ("a", "b_c"):
+        for crate in ("a", "b"):
             self.file(f"crates/{crate}/src/lib.rt")
 
     def ci_says(self, text):
@@ -236,51 +235,33 @@ class Gate(unittest.TestCase):
         self.assertIn("the oracle's own tests: they are not built", ended.stdout)
         self.assertIn("the must-fail edits, the layout, the comparison with the Rust", ended.stdout)
         self.assertRegex(ended.stdout.splitlines()[-1], r"^== all that was run holds, after \d+ s; the gate is ./test$")
-        self.assertEqual([call for call in self.called() if call.startswith("rt ")], [])
+        self.assertEqual([call for call in self.called() if call.startswith("rt ") or call.startswith("changed")], [])
         self.assertIn("python3 -m unittest discover -q -s tests", self.called())
 
-    def proved(self, crate, age=60):
-        self.file(f"crates/{crate}/src/lib.rt", age=2 * age)
-        self.file(f"crates/{crate}/out/incremental/kept")
-        self.file(f"target/proved/{crate}", age=age)
-
-    def checking(self, text="", crate="b_c"):
-        """`rt` notes the folder that it checks, and does what the text says in the crate's."""
-        self.command("bin/rt", f"echo \"in $(basename \"$PWD\")\" >>'{self.root}/log'\n[ $(basename \"$PWD\") != {crate} ] || {{ {text or ':'}; }}")
+    def proved_but(self, *changed, text=""):
+        """Crates that were proved here, but for those that were changed; `rt` notes in which folder it runs."""
+        self.file("crates/a/out/incremental/kept")
+        self.command("tools/changed", f"printf '%s\\n' {' '.join(changed)}" if changed else "")
+        self.command("bin/rt", f"echo \"in $(basename \"$PWD\")\" >>'{self.root}/log'\n{text}")
 
     def proofs(self):
-        called = self.called()
-        folders = [call.removeprefix("in ") for call in called if call.startswith("in ")]
-        return list(zip((call for call in called if call.startswith("rt ")), folders))
+        return [call.removeprefix("in ") for call in self.called() if call.startswith("in ")]
 
-    def test_quick_proves_what_was_changed_and_then_what_stands_on_it(self):
-        self.checking()
-        self.proved("a")
-        self.proved("b_c")
-        top = ("rt all check", self.root.name)
+    def test_quick_proves_what_was_changed(self):
+        self.proved_but()
         ended = self.gate("quick")
-        self.assertEqual(ended.returncode, 0, ended.stderr)
-        self.assertEqual(self.proofs(), [top])
-        self.file("crates/b_c/specs/B.antt")
-        for _ in range(2):
-            ended = self.gate("quick")
-            self.assertEqual(ended.returncode, 0, ended.stderr)
-        self.assertEqual(self.proofs(), [top, ("rt check", "b_c"), top, top])
+        self.assertEqual((ended.returncode, self.proofs()), (0, []), ended.stderr)
+        self.proved_but("a", "b")
+        ended = self.gate("quick")
+        self.assertEqual((ended.returncode, self.proofs()), (0, ["a", "b"]), ended.stderr)
+        self.assertEqual([call for call in self.called() if call.startswith("rt ")], ["rt check"] * 2)
         self.assertNotIn("rt check, which", ended.stdout)
 
-    def test_quick_proves_a_crate_that_is_new(self):
-        self.checking()
-        self.proved("a")
-        self.gate("quick")
-        self.assertIn(("rt check", "b_c"), self.proofs())
-
     def test_quick_fails_where_a_proof_does(self):
-        self.proved("a")
-        for _ in range(2):
-            self.checking("exit 1")
-            ended = self.gate("quick")
-            self.assertEqual(ended.returncode, 1)
-            self.assertNotIn("holds", ended.stdout)
+        self.proved_but("a", "b", text="exit 1")
+        ended = self.gate("quick")
+        self.assertEqual((ended.returncode, self.proofs()), (1, ["a"]))
+        self.assertNotIn("all that was run holds", ended.stdout)
 
     def test_quick_fails_where_a_tool_does(self):
         self.command("bin/python3", '[ "$1" != tools/house.py ]')
@@ -289,19 +270,17 @@ class Gate(unittest.TestCase):
         self.assertNotIn("holds", ended.stdout)
 
     def test_quick_is_over_in_its_time(self):
-        self.proved("a")
-        self.checking("sleep 60")
+        self.proved_but("a", "b", text="sleep 60")
         ended = self.gate("quick", QUICK_SECONDS="2")
         self.assertEqual(ended.returncode, 0, ended.stderr)
         self.assertRegex(
             ended.stdout,
-            r"    ./test prove b_c, which did not end in the \d s that were left\n    rt all check: no time was left\n",
+            r"    env -C crates/a rt check, which did not end in the \d s that were left\n    env -C crates/b rt check: no time was left\n",
         )
 
     def test_quick_fails_where_a_proof_did_before_it_was_cut(self):
-        self.proved("a")
-        for said in ("fn b_c::f: not proved", "src/lib.rt:1:1: error[unknown-name]: no"):
-            self.checking(f"echo '{said}'; sleep 60")
+        for said in ("fn b::f: not proved", "src/lib.rt:1:1: error[unknown-name]: no"):
+            self.proved_but("b", text=f"echo '{said}'; sleep 60")
             ended = self.gate("quick", QUICK_SECONDS="2")
             self.assertEqual(ended.returncode, 1)
             self.assertIn(said, ended.stdout)

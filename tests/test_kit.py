@@ -29,6 +29,10 @@ class Kit(unittest.TestCase):
             self.assertEqual((texts, why), ({"src/lib.rt": "a c\n"}, None))
             self.assertIn("0 times", rt.edited("file: src/lib.rt\nold: d\nnew: c", folder)[1])
 
+    def test_what_changed_asks_for(self):
+        rt = tool.load("rt")
+        self.assertTrue(callable(rt.places_of) and callable(rt.rtlib.Crate))
+
     def test_without_a_kit(self):
         with mock.patch.dict(os.environ, {"PATH": ""}), self.assertRaisesRegex(OSError, "rt is missing"):
             tool.load("rtlib")

@@ -40,6 +40,7 @@ static HOOK: Once = Once::new();
 /// Runs a call of the Rust, and says how it ended.
 pub fn caught<T>(call: impl FnOnce() -> T) -> Result<T, Fault> {
     HOOK.call_once(|| {
+        let _alone = terms::HOOKS.lock();
         let usual = take_hook();
         set_hook(Box::new(move |info| {
             if !CALLING.with(Cell::get) {

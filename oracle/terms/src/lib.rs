@@ -1,6 +1,12 @@
 //! What a planner is asked and what it answers, in plain numbers, so that every build of the Rust
 //! and the proved library can be asked the same thing.
 
+use std::sync::Mutex;
+
+/// Held while a build of the Rust puts its panic hook before the one that is there. A process has one
+/// hook, and two builds at once would each put theirs before the same one, so that one were lost.
+pub static HOOKS: Mutex<()> = Mutex::new(());
+
 /// A place at an instant, in nanoseconds and metres.
 #[derive(Clone, Copy, Debug, PartialEq)]
 pub struct Waypoint {
