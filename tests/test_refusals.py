@@ -169,6 +169,15 @@ class Refusals(unittest.TestCase):
         self.log(WITHOUT_SINCE + note.format(4, "sub_d") + note.format(6, "returns-then-d"))
         self.assertEqual(self.said()[0], 0)
 
+    def test_a_goal_of_functions_that_call_one_another(self):
+        self.edit(EDIT.replace("time::TimePoint::since at sub_d, returns-then-d", "time::+ring at more-sub_d"))
+        self.write("crates/a/src/time.rt", SOURCE.replace("pub fn", "fn") + "\nfn more() {\n}\n")
+        note = "note: src/time.rt:10:1: it is not proved that the sum does not wrap (`more-sub_d`); `search` gave up\n"
+        self.log(WITHOUT_SINCE + note, ends_swapped=note)
+        self.assert_fault(1, "`ends_swapped` is not refused at `more-sub_d` of `time::+ring`")
+        self.write("crates/a/proofs/time/+ring/Answers.antt", "pub more-returns : goal.more-returns\n")
+        self.assertEqual(self.said()[0], 0, self.said()[1])
+
     def test_an_edit_that_is_not_refused(self):
         self.log(None)
         self.assert_fault(1, "a/code_1: is not refused")

@@ -73,13 +73,24 @@ def function_at(crate, path, line):
     return "::".join(filter(None, [*module, *([here.within, here.place.name] if here else [])]))
 
 
+def proof_of(crate, function, goal):
+    """The proof in which a goal of a function is. Functions that call one another have one together, `+NAME`, and its goals begin
+    with the function's name."""
+    *module, name = function.split("::")
+    if goal.startswith(f"{name}-"):
+        for folder in sorted(crate.joinpath("proofs", *module).glob("+*")):
+            if any(f"{name}-" in file.read_text(encoding="utf-8") for file in folder.glob("*.antt")):
+                return "::".join([*module, folder.name])
+    return function
+
+
 def refusal(crate, line):
     """The fact that a line of a check refuses, if it does, and whether its proof only does not fit the code."""
     error, unproved = ERROR.match(line), UNPROVED.match(line)
     if error and not RESTS_ON_ANOTHER.search(error[3]):
         return Fact(proof_name(error[1]), error[2] or "a line"), bool(UNFIT.search(error[3]))
     if unproved:
-        return Fact(function_at(crate, unproved[1], int(unproved[2])), unproved[3]), False
+        return Fact(proof_of(crate, function_at(crate, unproved[1], int(unproved[2])), unproved[3]), unproved[3]), False
     return None, False
 
 
