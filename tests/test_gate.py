@@ -172,6 +172,16 @@ class Gate(unittest.TestCase):
         self.assertLessEqual({*steps, "plan examples/one.txt", "holds examples/year.holds"}, set(self.called()))
         self.assertEqual([call for call in self.called() if call.startswith("rt ")], ["rt ci"])
 
+    def test_every_fault_is_tried_unless_the_gate_has_taken_long(self):
+        self.assertIn("python3 tools/refusals.py ", [f"{call} " for call in self.called_by(REFUSALS_WITHIN="2100")])
+        ended = self.gate(REFUSALS_WITHIN="0")
+        self.assertEqual(ended.returncode, 0, ended.stderr)
+        self.assertRegex(ended.stdout, r"\n== left out, after \d+ s: python3 tools/refusals.py\n")
+
+    def called_by(self, **env):
+        self.assertEqual(self.gate(**env).returncode, 0)
+        return [call.rstrip() for call in self.called()]
+
     def test_an_edit_that_counts_for_nothing(self):
         for count, status in (("0", 0), ("1", 1), ("12", 1)):
             with self.subTest(count):
