@@ -173,7 +173,7 @@ class Gate(unittest.TestCase):
         self.assertEqual([call for call in self.called() if call.startswith("rt ")], ["rt ci"])
 
     def test_every_fault_is_tried_unless_the_gate_has_taken_long(self):
-        self.assertIn("python3 tools/refusals.py ", [f"{call} " for call in self.called_by(REFUSALS_WITHIN="2100")])
+        self.assertIn("python3 tools/refusals.py ", [f"{call} " for call in self.called_by(REFUSALS_WITHIN="1200")])
         ended = self.gate(REFUSALS_WITHIN="0")
         self.assertEqual(ended.returncode, 0, ended.stderr)
         self.assertRegex(ended.stdout, r"\n== left out, after \d+ s: python3 tools/refusals.py\n")
