@@ -124,6 +124,9 @@ class Thin(unittest.TestCase):
     def test_what_is_written(self):
         self.assertEqual(tool.thin_module("f_exports", "calls", LIBRARY), THIN)
         self.assertEqual(tool.thin_module("f_exports", "inner", "// Inner.\npub fn g() {}\n"), "")
+        told_how = LIBRARY.replace("pub fn igelbert_f(", "#[tactic(auto)]\npub fn igelbert_f(")
+        self.assertNotEqual(told_how, LIBRARY)
+        self.assertEqual(tool.thin_module("f_exports", "calls", told_how), THIN)
 
     def test_written_and_held(self):
         self.assertEqual(len(self.found()), 2)

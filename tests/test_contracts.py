@@ -129,6 +129,16 @@ class Contracts(unittest.TestCase):
         self.write("crates/contracts/proofs/gone.antt", "-- Nothing.\n")
         self.assertIn("states theorems of no crate", self.said()[1][0])
 
+    def test_methods_of_library_traits_owe_no_theorem(self):
+        for name in ("refusals::U64FromRefusal::from", "times::time::TimePointPartialOrd::partial_cmp", "refusals::RefusalDebug::fmt"):
+            self.assertTrue(tool.of_a_library_trait(name), name)
+        for name in ("times::time::TimePoint::from_secs_f64", "lent::words::refuse", "path_search::tried::Tried::ended", "a::From::of"):
+            self.assertFalse(tool.of_a_library_trait(name), name)
+
+    def test_what_is_cited_by_hand_is_depended_on(self):
+        self.write("crates/contracts/proofs/Rules.antt", "use Rattle.settling.proofs.Facts.{f}\nuse Rattle.low.specs.A.{b}\n")
+        self.assertNotIn("settling", tool.cited_by_hand(tool.Contracts(self.root)))
+
     def test_the_house(self):
         contracts = tool.check(ROOT)
         self.assertEqual(contracts.faults, [])

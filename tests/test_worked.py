@@ -22,6 +22,13 @@ EXAMPLE = re.compile(
 TRIPLE = re.compile(r"\(([-\d_.]+), ([-\d_.]+), ([-\d_.]+)\)")
 
 
+def numbers_of_refusals():
+    """The number of each refusal, by the names of the enum (`refusal_number`)."""
+    text = (ROOT / "crates" / "refusals" / "specs" / "Names.antt").read_text()
+    numbers = dict(re.findall(r"^([A-Z_]+) = (\d+)$", text, re.M))
+    return {name: int(numbers[constant]) for name, constant in re.findall(r"^refusal_number (\w+) = ([A-Z_]+)$", text, re.M)}
+
+
 def number(text):
     """What a number of the definitions stands for."""
     if text == "nought":
@@ -42,9 +49,9 @@ def defined():
         cart = ((whole(s), number(x), number(y)), (whole(t), number(u), number(v)))
         question = (whole(metres), whole(start), FOOTPRINTS[kind], cart)
         if call == "walked":
-            refused = re.search(r"≡ Refused (\d+)", answer)
+            refused = re.search(r"≡ Refused Refusals\.(\w+)", answer)
             hints = [(number(at), whole(until)) for at, until in HINT.findall(answer)]
-            found[question] = int(refused[1]) if refused else hints
+            found[question] = numbers_of_refusals()[refused[1]] if refused else hints
         else:
             sign = {"lasting": 1, "early": -1}
             hints = RANKED.findall(answer)

@@ -72,7 +72,7 @@ def from_rattle(text):
 
 
 # A function of a library that is exported: what is said of it, its name, its parameters, its answer and its clauses.
-EXPORTED = re.compile(r"^((?://.*\n)*)pub fn (igelbert_\w+)\(([^)]*)\) -> (\w+)\n((?: +.*\n)+)\{\n", re.M)
+EXPORTED = re.compile(r"^((?://.*\n)*)(?:#\[.*\n)*pub fn (igelbert_\w+)\(([^)]*)\) -> (\w+)\n((?: +.*\n)+)\{\n", re.M)
 GHOST_USE = re.compile(r"^ghost use (\S+?)(?:\.\{([^}]*)\})?;\n", re.M)
 OPENING = re.compile(r"(?://.*\n)+")
 

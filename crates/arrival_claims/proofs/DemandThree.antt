@@ -11,8 +11,6 @@ use Rattle.times.specs.declared.time.TimePoint.{TimePoint}
 use Rattle.times.proofs.Integers.{at-most→not-below}
 use Rattle.domain.specs.Domain.{is_leg, is_profile}
 use Rattle.shapes.specs.Leg.{is_backward}
-use Rattle.domain.specs.declared.limits.Examined.{Examined}
-use Rattle.domain.specs.declared.limits.Examined.TheVariants as X
 use Rattle.shapes.specs.declared.profile.CircularProfile.{CircularProfile}
 use Rattle.shapes.specs.declared.waypoint.Leg.{Leg}
 use Rattle.shapes.specs.declared.waypoint.Waypoint.{Waypoint}
@@ -32,6 +30,9 @@ use Rattle.arrival_claims.specs.DemandThree.{Source, Refusal, by_numbers, by_sha
 use Rattle.arrival_claims.specs.DemandThree.{Accepts, seen, DemandThree}
 use Rattle.arrival_claims.proofs.RealLegs.{all_early, all_ruled, all_creep}
 use Rattle.arrival_claims.proofs.Table.{moving_few, source}
+use Rattle.std.specs.Prelude.{Result, Ok, Err}
+use Rattle.refusals.specs.declared.Refusal.TheVariants as Refusals
+use Rattle.refusals.specs.declared.Refusal as Declared
 
 module _ (p : CircularProfile) (g : Waypoint) (lent : Lent) where
   abbrev stay : Leg
@@ -40,17 +41,19 @@ module _ (p : CircularProfile) (g : Waypoint) (lent : Lent) where
   -- ---- The examination.
 
   -- An agent that stands does not run backward, so what is wrong is 1 or 2 (RULES 4.1 to 4.3).
-  wrong : {n : ℕ} → agent_examined p stay lent ≡ X.Refused n → (n ≡ 1) ⊎ (n ≡ 2)
+  wrong : {why : Declared.Refusal} → agent_examined p stay lent ≡ Err why → (why ≡ Refusals.Number) ⊎ (why ≡ Refusals.Shape)
   unfolding agent_examined table_examined is_backward
-  wrong {n} =
+  wrong {why} =
       let t = g.time.0 in
       let os = obstacles_of lent in
       by (is_laid lent && is_shaped os) (is_profile p && (is_leg stay && are_allowed os)) (lt_z t t)
       (at-most→not-below t t (≤ℤ_refl t))
     where
       by : (shaped allowed backward : Bool) → backward ≡ false →
-          cond shaped (cond allowed (cond backward (X.Refused 3) X.Fine) (X.Refused 1)) (X.Refused 2) ≡ X.Refused n →
-          (n ≡ 1) ⊎ (n ≡ 2)
+          ◌≡◌ {A = Result (Unit {0}) Declared.Refusal}
+          (cond shaped (cond allowed (cond backward (Err Refusals.Backward) (Ok tt)) (Err Refusals.Number)) (Err Refusals.Shape))
+          (Err why) →
+          (why ≡ Refusals.Number) ⊎ (why ≡ Refusals.Shape)
       by true true true b e = absurd (true≢false b)
       by true true false b e = absurd (true≢false (cc e))
       by true false backward b e = inl (cc e)
@@ -60,14 +63,15 @@ module _ (p : CircularProfile) (g : Waypoint) (lent : Lent) where
   found = arrivals (view_at g) (seen p lent) g.time
 
   -- What is answered is what the search finds, or 1 or 2 and there is no search (RULES 5.1).
-  by_input : (P : Searched → Type 0) → (Accepts p g lent → P found) → ((n : ℕ) → (n ≡ 1) ⊎ (n ≡ 2) → P (Refused n)) →
+  by_input : (P : Searched → Type 0) → (Accepts p g lent → P found) →
+      ((why : Declared.Refusal) → (why ≡ Refusals.Number) ⊎ (why ≡ Refusals.Shape) → P (Refused why)) →
       P (asked_arrivals p g lent)
   unfolding asked_arrivals arrivals_at
   by_input P fine refused = by (agent_examined p stay lent) refl
     where
-      by : (x : Examined) → agent_examined p stay lent ≡ x → P (asked_arrivals p g lent)
-      by X.Fine e = rw e (fine e)
-      by (X.Refused n) e = rw e (refused n (wrong e))
+      by : (x : Result Unit Declared.Refusal) → agent_examined p stay lent ≡ x → P (asked_arrivals p g lent)
+      by (Ok tt) e = rw e (fine e)
+      by (Err why) e = rw e (refused why (wrong e))
 
   accepts : Accepts p g lent → asked_arrivals p g lent ≡ found
   unfolding asked_arrivals arrivals_at
@@ -79,43 +83,47 @@ module _ (p : CircularProfile) (g : Waypoint) (lent : Lent) where
       by_input (λ a. a ≡ Answered l n → Accepts p g lent × (found ≡ Answered l n)) (λ f e. (f, e))
       (λ m h e. absurd (true≢false (cc e)))
 
-  refuses : {n : ℕ} → asked_arrivals p g lent ≡ Refused n → ((n ≡ 1) ⊎ (n ≡ 2)) ⊎ (Accepts p g lent × (found ≡ Refused n))
-  refuses {n} =
-      by_input (λ a. a ≡ Refused n → ((n ≡ 1) ⊎ (n ≡ 2)) ⊎ (Accepts p g lent × (found ≡ Refused n))) (λ f e. inr (f, e))
-      (λ m h e. let same : m ≡ n = cc e in inl (rw same at h))
+  refuses : {why : Declared.Refusal} → asked_arrivals p g lent ≡ Refused why →
+      ((why ≡ Refusals.Number) ⊎ (why ≡ Refusals.Shape)) ⊎ (Accepts p g lent × (found ≡ Refused why))
+  refuses {why} =
+      by_input
+      (λ a. a ≡ Refused why → ((why ≡ Refusals.Number) ⊎ (why ≡ Refusals.Shape)) ⊎ (Accepts p g lent × (found ≡ Refused why)))
+      (λ f e. inr (f, e))
+      (λ own h e. let same : own ≡ why = cc e in inl (rw same at h))
 
   -- ---- Refusals.
 
   -- A search is refused 5, or it is stuck (RULES 4.5, 4.8).
-  found_refused : {n : ℕ} → Accepts p g lent → found ≡ Refused n → (n ≡ 5) ⊎ ((n ≡ 8) × Stuck (view_at g) (seen p lent) g.time)
+  found_refused : {why : Declared.Refusal} → Accepts p g lent → found ≡ Refused why →
+      (why ≡ Refusals.Creep) ⊎ ((why ≡ Refusals.Stuck) × Stuck (view_at g) (seen p lent) g.time)
   found_refused f e =
       let a = accepted p stay lent f in
       let os = obstacles_of lent in
-      Theorems.refused (view_at g) (seen p lent) g.time (λ n. n ≡ 5)
+      Theorems.refused (view_at g) (seen p lent) g.time (λ why. why ≡ Refusals.Creep)
       (all_ruled g p os a.others) (all_creep g p (leg_start stay a.own) a.profile os a.others) e
 
-  refusal : {n : ℕ} → asked_arrivals p g lent ≡ Refused n → Refusal n
-  refusal {n} e =
+  refusal : {why : Declared.Refusal} → asked_arrivals p g lent ≡ Refused why → Refusal why
+  refusal {why} e =
       ⊎_elim
-      (⊎_elim (λ (one : n ≡ 1). rw one by_numbers) (λ (two : n ≡ 2). rw two by_shape))
-      (λ h. ⊎_elim (λ (five : n ≡ 5). rw five by_creep) (λ s. rw s.0 by_stuck) (found_refused h.0 h.1))
+      (⊎_elim (λ (one : why ≡ Refusals.Number). rw one by_numbers) (λ (two : why ≡ Refusals.Shape). rw two by_shape))
+      (λ h. ⊎_elim (λ (five : why ≡ Refusals.Creep). rw five by_creep) (λ s. rw s.0 by_stuck) (found_refused h.0 h.1))
       (refuses e)
 
-  not_nine : Refusal 9 → ⊥
+  not_nine : Refusal Refusals.Late → ⊥
   not_nine r = elim r [ ]
 
-  is_stuck : asked_arrivals p g lent ≡ Refused 8 → Accepts p g lent × Stuck (view_at g) (seen p lent) g.time
+  is_stuck : asked_arrivals p g lent ≡ Refused Refusals.Stuck → Accepts p g lent × Stuck (view_at g) (seen p lent) g.time
   is_stuck e =
       ⊎_elim
       (λ wrong. absurd (⊎_elim one two wrong))
       (λ h. (h.0, (Theorems.stuck (view_at g) (seen p lent) g.time (all_early g (seen p lent))).0 h.1))
       (refuses e)
     where
-      one : ◌≡◌ {A = ℕ} 8 1 → ⊥
-      one h = omega arith
+      one : Refusals.Stuck ≢ Refusals.Number
+      one h = true≢false cc
 
-      two : ◌≡◌ {A = ℕ} 8 2 → ⊥
-      two h = omega arith
+      two : Refusals.Stuck ≢ Refusals.Shape
+      two h = true≢false cc
 
   pub demand_three : DemandThree p g lent
   demand_three =

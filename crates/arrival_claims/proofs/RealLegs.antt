@@ -1,7 +1,7 @@
 -- The legs behind the search: what proximity (RULES, section 8) gives of a leg that is seen from a place, and what the legs of an
 -- accepted table are to the search.
 -- Assumes nothing.
-use Prim.Native.Nat.{ℕ, ◌+◌, ◌^◌}
+use Prim.Native.Nat.{◌+◌, ◌^◌}
 use mathlib.Core.Path.{◌≡◌, refl}
 use mathlib.Core.Logic.{⊎_elim}
 use mathlib.Core.Bool.{true, true≢false, ◌&&◌}
@@ -16,7 +16,6 @@ use Rattle.lent.specs.Listed.{every}
 use Rattle.floats.proofs.Tests.{passed}
 use Rattle.times.specs.Time.{is_exact, instant_after}
 use Rattle.times.specs.declared.time.TimePoint.{TimePoint}
-use Rattle.times.specs.declared.time.Instant.TheVariants as I
 use Rattle.times.proofs.Integers.{below→at-most, at_most_trans}
 use Rattle.times.proofs.Order.{chosen_has}
 use Rattle.times.proofs.Exact.{both}
@@ -38,6 +37,10 @@ use Rattle.table.proofs.Accepted.{is_driven, is_fit}
 use Rattle.arrival_search.specs.Sweeps.{All, Early, Fair, Joined, Ruled, Refuses}
 use Rattle.arrival_search.proofs.Lists.{all_of}
 use Rattle.arrival_legs.specs.Watched.{Watched, watched, standing_leg, near_of, view_at, watched_legs, watched_all}
+use Rattle.std.specs.Prelude.{Ok, Err}
+use Rattle.times.specs.Time.{strayed}
+use Rattle.refusals.specs.declared.Refusal.{Refusal}
+use Rattle.refusals.specs.declared.Refusal.TheVariants as Refusals
 
 -- ---- Any leg.
 
@@ -45,7 +48,7 @@ module _ (g : Waypoint) where
   -- It is refused by a number below 8 (RULES 4.1, 4.5 to 4.7).
   pub early : (w : Watched) → Early (view_at g) w
   unfolding near_of
-  early w n e = early_below (refuses_early w.limit (standing_leg g w.leg) w.leg e)
+  early w why e = early_below (refuses_early w.limit (standing_leg g w.leg) w.leg e)
 
   pub all_early : (os : List (List Watched)) → All (All (Early (view_at g))) os
   all_early os = all_of (All (Early (view_at g))) (λ o. all_of (Early (view_at g)) early o) os
@@ -96,7 +99,7 @@ reach (negsuc n) low high = absurd low.le
 
 -- 10,000 ns after an instant of the table are in reach (RULES 3.1, 4.7).
 not_strayed : (t : TimePoint) → pos 0 ≤ℤ t.0 → t.0 ≤ℤ pos (10 ^ 15) →
-    instant_after t (record { 0 = pos 10_000 }) ≡ I.Strayed → ⊥
+    instant_after t (record { 0 = pos 10_000 }) ≡ strayed → ⊥
 unfolding instant_after
 not_strayed t low high e = true≢false (cc (rw (reach t.0 low high) at e))
 
@@ -133,14 +136,14 @@ module _ (g : Waypoint) (limit : Float) (leg : Leg)
   ranged = proximity_in_range limit stand leg limited stands own
 
   -- It is refused by 5 only (RULES 8.13), and 10,000 ns after its exit are in reach.
-  pub creeps : Refuses (view_at g) (λ n. n ≡ 5) (watched limit leg)
+  pub creeps : Refuses (view_at g) (λ why. why ≡ Refusals.Creep) (watched limit leg)
   creeps = record { own = only; reach = λ enter exit e strayed. absurd (is_exact_law enter exit e strayed) }
     where
-      only : (n : ℕ) → near_of g limit leg ≡ P.Refused n → n ≡ 5
-      only n e = ⊎_elim (λ five. five) (λ gap. clash_ℤ gap.1 in_order) (rw e at ranged)
+      only : (why : Refusal) → near_of g limit leg ≡ Err why → why ≡ Refusals.Creep
+      only why e = ⊎_elim (λ five. five) (λ gap. clash_ℤ gap.1 in_order) (rw e at ranged)
 
-      is_exact_law : (enter exit : TimePoint) → near_of g limit leg ≡ P.Passes enter exit →
-          instant_after exit (record { 0 = pos 10_000 }) ≡ I.Strayed → ⊥
+      is_exact_law : (enter exit : TimePoint) → near_of g limit leg ≡ Ok (P.Passes enter exit) →
+          instant_after exit (record { 0 = pos 10_000 }) ≡ strayed → ⊥
       is_exact_law enter exit e =
           let within = rw e at ranged in
           let low = at_most_trans _ _ _ (at_most_trans _ _ _ (time_not_below _ began) (starts stand leg).second) within.0 in
@@ -169,7 +172,7 @@ module _ (g : Waypoint) (p : CircularProfile) where
 
   module _ (placed : is_waypoint g ≡ true) (sized : is_profile p ≡ true) where
     legs_creep : (limit : Float) → is_limit limit ≡ true → (legs : List Leg) → every is_driven legs ≡ true →
-        All (Refuses (view_at g) (λ n. n ≡ 5)) (watched_legs limit legs)
+        All (Refuses (view_at g) (λ why. why ≡ Refusals.Creep)) (watched_legs limit legs)
     unfolding every watched_legs
     legs_creep limit limited [] e = tt
     legs_creep limit limited (leg ∷ legs) e =
@@ -178,7 +181,7 @@ module _ (g : Waypoint) (p : CircularProfile) where
 
     -- and are refused by 5 only.
     pub all_creep : (os : List Obstacle) → every is_fit os ≡ true →
-        All (All (Refuses (view_at g) (λ n. n ≡ 5))) (watched_all p os)
+        All (All (Refuses (view_at g) (λ why. why ≡ Refusals.Creep))) (watched_all p os)
     unfolding every watched_all
     all_creep [] e = tt
     all_creep (o ∷ os) e =

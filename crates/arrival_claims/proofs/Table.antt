@@ -21,6 +21,8 @@ use Rattle.arrival_search.specs.Sweeps as S
 use Rattle.arrival_search.specs.Sweeps.{exit_of, exits_of, finish_of, all_exits, all_finishes}
 use Rattle.arrival_legs.specs.Watched.{Watched, watched, near_of, view_at, watched_legs, watched_of, watched_all}
 use Rattle.arrival_claims.specs.DemandThree.{one_in, trajectories_in, last_of, Source, at_asked, at_exit, at_finish}
+use Rattle.std.specs.Prelude.{Result, Ok, Err}
+use Rattle.refusals.specs.declared.Refusal.{Refusal}
 
 -- ---- Counts.
 
@@ -47,20 +49,20 @@ module _ (g : Waypoint) (limit : Float) where
     pub leg : Leg
     pub member : Memᴰ leg legs
     pub enter : TimePoint
-    pub passes : near_of g limit leg ≡ P.Passes enter t
+    pub passes : near_of g limit leg ≡ Ok (P.Passes enter t)
 
-  exit_here : (leg : Leg) (legs : List Leg) (near : Proximity) (t : TimePoint) → near_of g limit leg ≡ near →
+  exit_here : (leg : Leg) (legs : List Leg) (near : Result Proximity Refusal) (t : TimePoint) → near_of g limit leg ≡ near →
       Memᴰ t (exit_of near) → ExitIn (leg ∷ legs) t
-  exit_here leg legs P.Never t e m = absurd (Memᴰ.not-nil m)
-  exit_here leg legs (P.Enters enter) t e m = absurd (Memᴰ.not-nil m)
-  exit_here leg legs (P.Passes enter exit) t e m =
+  exit_here leg legs (Ok P.Never) t e m = absurd (Memᴰ.not-nil m)
+  exit_here leg legs (Ok (P.Enters enter)) t e m = absurd (Memᴰ.not-nil m)
+  exit_here leg legs (Ok (P.Passes enter exit)) t e m =
       record {
         leg = leg;
         member = Memᴰ.head refl;
         enter = enter;
-        passes = e ∙ ap (P.Passes enter) (sym (Memᴰ.eq_of_singleton m));
+        passes = e ∙ ap (λ (x : TimePoint). Ok (P.Passes enter x)) (sym (Memᴰ.eq_of_singleton m));
       }
-  exit_here leg legs (P.Refused n) t e m = absurd (Memᴰ.not-nil m)
+  exit_here leg legs (Err why) t e m = absurd (Memᴰ.not-nil m)
 
   exit_in : (legs : List Leg) (t : TimePoint) → Memᴰ t (exits_of (view_at g) (watched_legs limit legs)) → ExitIn legs t
   unfolding watched_legs

@@ -3,10 +3,8 @@
 -- Assumes nothing.
 use Rattle.std.specs.Prelude.{ℕ, ◌+◌, ◌≤◌, ◌≡◌, ◌≢◌, ◌↔◌, ◌<ℤ◌}
 use mathlib.Core.List.{List, [], ◌∷◌, Memᴰ}
-use Rattle.refusals.specs.Names.{NUMBER, SHAPE, CREEP, STUCK, LATE}
 use Rattle.times.specs.declared.time.TimePoint.{TimePoint}
 use Rattle.shapes.specs.Distance.{critical_distance_squared}
-use Rattle.domain.specs.declared.limits.Examined.TheVariants as X
 use Rattle.shapes.specs.declared.profile.CircularProfile.{CircularProfile}
 use Rattle.shapes.specs.declared.waypoint.Leg.{Leg}
 use Rattle.shapes.specs.declared.waypoint.Waypoint.{Waypoint}
@@ -18,6 +16,9 @@ use Rattle.arrival_search.specs.Search.{Answered, Refused, Unfinished}
 use Rattle.arrival_search.specs.Sweeps.{All, Rising, Then, Stuck, Gives}
 use Rattle.arrival_legs.specs.Watched.{Watched, near_of, view_at, watched_all}
 use Rattle.arrival_times.specs.Asked.{asked_arrivals}
+use Rattle.std.specs.Prelude.{Ok}
+use Rattle.refusals.specs.declared.Refusal as Declared
+use Rattle.refusals.specs.declared.Refusal.TheVariants as Refusals
 
 -- O: the obstacles with a trajectory, which are those with a waypoint; L is `legs_in_all` (RULES 3.6, 12.19).
 abbrev pub one_in : List Waypoint → ℕ
@@ -38,17 +39,17 @@ last_of w (v ∷ vs) = last_of v vs
 pub data Source (p : CircularProfile) (g : Waypoint) (os : List Obstacle) (t : TimePoint) : Type 0 where
   at_asked : t ≡ g.time → Source p g os t
   at_exit : {o : Obstacle} {leg : Leg} {enter : TimePoint} → Memᴰ o os → Memᴰ leg (legs_of o.waypoints) →
-      near_of g (critical_distance_squared p o.profile) leg ≡ P.Passes enter t → Source p g os t
+      near_of g (critical_distance_squared p o.profile) leg ≡ Ok (P.Passes enter t) → Source p g os t
   at_finish : {o : Obstacle} {w : Waypoint} {ws : List Waypoint} → Memᴰ o os → o.waypoints ≡ w ∷ ws →
       t ≡ (last_of w ws).time → Source p g os t
 
 -- The refusals that there are: for the numbers and for the shape of the input, for creep, and for a search that is stuck
 -- (RULES 4.1, 4.2, 4.5, 4.8).
-pub data Refusal : ℕ → Type 0 where
-  by_numbers : Refusal NUMBER
-  by_shape : Refusal SHAPE
-  by_creep : Refusal CREEP
-  by_stuck : Refusal STUCK
+pub data Refusal : Declared.Refusal → Type 0 where
+  by_numbers : Refusal Refusals.Number
+  by_shape : Refusal Refusals.Shape
+  by_creep : Refusal Refusals.Creep
+  by_stuck : Refusal Refusals.Stuck
 
 -- The legs of each obstacle, each with its limit, as the search sees them.
 abbrev pub seen : CircularProfile → Lent → List (List Watched)
@@ -57,7 +58,7 @@ seen p lent = watched_all p (obstacles_of lent)
 module _ (p : CircularProfile) (g : Waypoint) (lent : Lent) where
   -- The input is in the table of the domain, so that there is a search (RULES 5.1).
   abbrev pub Accepts : Type 0
-  Accepts = agent_examined p (record { start = g; end = g }) lent ≡ X.Fine
+  Accepts = agent_examined p (record { start = g; end = g }) lent ≡ Ok tt
 
   pub record DemandThree : Type 0 where
     -- An answered search makes at most L + O + 1 sweeps (RULES D3a),
@@ -74,8 +75,8 @@ module _ (p : CircularProfile) (g : Waypoint) (lent : Lent) where
     pub sequence : {l : List TimePoint} {n : ℕ} →
         (asked_arrivals p g lent ≡ Answered l n) ↔ (Accepts × Gives (view_at g) (seen p lent) g.time [] l n)
     -- The call is refused 8 exactly where it is stuck (RULES D3e),
-    pub stuck : (asked_arrivals p g lent ≡ Refused STUCK) ↔ (Accepts × Stuck (view_at g) (seen p lent) g.time)
+    pub stuck : (asked_arrivals p g lent ≡ Refused Refusals.Stuck) ↔ (Accepts × Stuck (view_at g) (seen p lent) g.time)
     -- never 9 (RULES 12.9),
-    pub never_nine : asked_arrivals p g lent ≢ Refused LATE
+    pub never_nine : asked_arrivals p g lent ≢ Refused Refusals.Late
     -- and else by 1, 2 or 5 only.
-    pub refusals : {n : ℕ} → asked_arrivals p g lent ≡ Refused n → Refusal n
+    pub refusals : {why : Declared.Refusal} → asked_arrivals p g lent ≡ Refused why → Refusal why

@@ -1,2 +1,1 @@
-mod Else
 mod Walking

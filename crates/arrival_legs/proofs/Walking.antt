@@ -2,7 +2,7 @@
 -- Assumes nothing.
 use Prim.Native.Nat.{ℕ, zero, suc, ◌+◌, ◌-◌, ◌≤◌, ◌<◌}
 use mathlib.Core.Path.{◌≡◌, refl, sym, ap, ◌∙◌}
-use mathlib.Core.Bool.{cond, ◌&&◌}
+use mathlib.Core.Bool.{Bool, true, false, cond, ◌&&◌}
 use mathlib.Core.List.{List, [], ◌∷◌}
 use native.Mathlib.Omega.{arith}
 use lib.Signed.{lt_z}
@@ -13,13 +13,23 @@ use Rattle.times.specs.declared.time.TimePoint.{TimePoint}
 use Rattle.shapes.specs.declared.waypoint.Leg.{Leg}
 use Rattle.shapes.specs.declared.waypoint.Waypoint.{Waypoint}
 use Rattle.table.specs.Table.{waypoint_in}
-use Rattle.arrival_search.specs.Search.{View, looked, or_next, finish, last, says, exits, flee, look, adjust, next_at, next_in, next}
+use lib.IntN.{pos}
+use Rattle.times.specs.Time.{instant_after, later_of}
+use Rattle.times.specs.declared.time.Strayed.{Strayed}
+use Rattle.refusals.specs.declared.Refusal.TheVariants as Refusals
+use Rattle.arrival_search.specs.Legs.{left_at}
+use Rattle.arrival_search.specs.Legs as S
+use Rattle.arrival_search.specs.declared.turn.Adjustment.{Adjustment}
+use Rattle.arrival_search.specs.Search.{View, looked, pushed_out, or_next, finish, last, says, exits}
+use Rattle.arrival_search.specs.Search.{flee, look, adjust, next_at, next_in, next}
 use Rattle.arrival_search.specs.declared.turn.Adjustment.TheVariants as A
-use Rattle.arrival_search.specs.declared.next.Next.{Next}
-use Rattle.arrival_search.specs.declared.next.Next.TheVariants as X
-use Rattle.arrival_legs.specs.Watched.{Watched, watched, watched_legs, view_at}
+use Rattle.arrival_legs.specs.Watched.{Watched, watched, watched_legs, ends_near, view_at}
 use Rattle.arrival_legs.specs.Table.{ending_of}
+use Rattle.arrival_legs.specs.Track.{tracked_from}
 use Rattle.arrival_legs.specs.declared.track.Track.{Track}
+use Rattle.std.specs.Prelude.{Result, Ok, Err}
+use Rattle.refusals.specs.declared.Refusal.{Refusal}
+use Rattle.std.specs.Prelude.{Option, Some, None}
 
 -- ---- The legs from leg i on, up to the waypoint at `end`.
 
@@ -43,7 +53,7 @@ module _ (limit : Float) (f : ℕ → Leg) (end : ℕ) where
     flee_next e h = rw (watched_next i h)
 
     -- At the end the finish decides (RULES 12.10).
-    pub flee_done : (e : TimePoint) → end ≤ i → flee v c e (legs_from i) ≡ cond (lt_z c.0 e.0) (A.Pushed e) A.Lost
+    pub flee_done : (e : TimePoint) → end ≤ i → flee v c e (legs_from i) ≡ cond (lt_z c.0 e.0) (Ok (A.Pushed e)) (Ok A.Lost)
     unfolding flee
     flee_done e h = rw (watched_done i h)
 
@@ -54,23 +64,23 @@ module _ (limit : Float) (f : ℕ → Leg) (end : ℕ) where
     look_next e h = rw (watched_next i h)
 
     -- At the end there was no violation.
-    pub look_done : (e : TimePoint) → end ≤ i → look v c e (legs_from i) ≡ A.Quiet
+    pub look_done : (e : TimePoint) → end ≤ i → look v c e (legs_from i) ≡ Ok A.Quiet
     unfolding look
     look_done e h = rw (watched_done i h)
 
     -- The candidate that may follow is what the leg gives, or what the rest does (RULES 12.15).
-    pub next_next : (e : Next) → i < end → next_in v c e (legs_from i) ≡
+    pub next_next : (e : Result (Option TimePoint) Refusal) → i < end → next_in v c e (legs_from i) ≡
         or_next (next_at v c (watched limit (f i))) (λ _. next_in v c e (legs_from (i + 1)))
     unfolding next_in
     next_next e h = rw (watched_next i h)
 
     -- At the end it is what the finish gives (RULES 12.16).
-    pub next_done : (e : Next) → end ≤ i → next_in v c e (legs_from i) ≡ e
+    pub next_done : (e : Result (Option TimePoint) Refusal) → end ≤ i → next_in v c e (legs_from i) ≡ e
     unfolding next_in
     next_done e h = rw (watched_done i h)
 
     -- An obstacle without legs gives none.
-    pub next_none : end ≤ i → next v c (legs_from i) ≡ X.Missing
+    pub next_none : end ≤ i → next v c (legs_from i) ≡ Ok None
     unfolding next
     next_none h = rw (watched_done i h)
 
@@ -101,10 +111,17 @@ module _ (g : Waypoint) (limit : Float) (w : ℕ → Waypoint) where
 
   -- The finish is the last waypoint's time, and the last leg ends at its place.
   ending_is : (c : TimePoint) (n i : ℕ) →
-      cond (lt_z c.0 (finish_from n i).0 && (view_at g).ends_near (last (view_at g) (watched limit (leg i)) (rest n i)))
-      (X.At (finish_from n i)) X.Missing ≡ ending_of g limit (w (i + suc n)) c
+      let given : Result (Option TimePoint) Refusal = cond
+      (lt_z c.0 (finish_from n i).0 && (view_at g).ends_near (last (view_at g) (watched limit (leg i)) (rest n i)))
+      (Ok (Some (finish_from n i))) (Ok None) in
+      given ≡ Ok (ending_of g limit (w (i + suc n)) c)
   unfolding watched_legs listed ending_of
-  ending_is c zero i = refl
+  ending_is c zero i = by (lt_z c.0 (w (i + 1)).time.0 && ends_near g limit (w (i + 1)))
+    where
+      by : (b : Bool) → let given : Result (Option TimePoint) Refusal = cond b (Ok (Some (w (i + 1)).time)) (Ok None) in
+          given ≡ Ok (cond b (Some (w (i + 1)).time) None)
+      by true = refl
+      by false = refl
   ending_is c (suc n) i = rw (further n i) at (ending_is c n (suc i))
 
   module _ (c : TimePoint) (end from : ℕ) where
@@ -112,7 +129,7 @@ module _ (g : Waypoint) (limit : Float) (w : ℕ → Waypoint) where
     legs n = watched_legs limit (listed leg n from)
 
     -- The walk that takes the last waypoint's time for the finish is the obstacle's (RULES 12.5, 12.10).
-    pub adjust_begins : look (view_at g) c (w end).time (legs (end - from)) ≡ adjust (view_at g) c (legs (end - from))
+    adjust_begins : look (view_at g) c (w end).time (legs (end - from)) ≡ adjust (view_at g) c (legs (end - from))
     unfolding look adjust watched_legs listed
     adjust_begins = by (end - from) refl
       where
@@ -124,14 +141,53 @@ module _ (g : Waypoint) (limit : Float) (w : ℕ → Waypoint) where
             ap (λ (t : TimePoint). look (view_at g) c t (legs (suc n))) (sym finishes)
 
     -- The walk that ends with what the last waypoint gives is the obstacle's (RULES 12.15, 12.16).
-    pub next_begins : from < end →
-        next_in (view_at g) c (ending_of g limit (w end) c) (legs (end - from)) ≡ next (view_at g) c (legs (end - from))
+    next_begins : from < end →
+        next_in (view_at g) c (Ok (ending_of g limit (w end) c)) (legs (end - from)) ≡ next (view_at g) c (legs (end - from))
     unfolding next_in next watched_legs listed
     next_begins h = by (end - from) refl
       where
         by : (n : ℕ) → end - from ≡ n →
-            next_in (view_at g) c (ending_of g limit (w end) c) (legs n) ≡ next (view_at g) c (legs n)
+            next_in (view_at g) c (Ok (ending_of g limit (w end) c)) (legs n) ≡ next (view_at g) c (legs n)
         by zero e = absurd (omega arith)
         by (suc n) e = let same : from + suc n ≡ end = omega arith in
-            ap (λ (x : Next). next_in (view_at g) c x (legs (suc n)))
-            (ap (λ (k : ℕ). ending_of g limit (w k) c) (sym same) ∙ sym (ending_is c n from))
+            ap (λ (x : Result (Option TimePoint) Refusal). next_in (view_at g) c x (legs (suc n)))
+            (ap (λ (k : ℕ). Ok (ending_of g limit (w k) c)) (sym same) ∙ sym (ending_is c n from))
+
+-- So a track's walks begin as the definitions do.
+module _ (place : Waypoint) (track : Track) (marks : List ℕ) (places : List Float) (c : TimePoint) where
+  abbrev tracked : List Watched
+  tracked = tracked_from track marks places track.first
+
+  pub look_begins : look (view_at place) c (finish_in track marks places) tracked ≡ adjust (view_at place) c tracked
+  look_begins = adjust_begins place track.limit (waypoint_in marks places) c track.last track.first
+
+  pub following_begins : track.first < track.last →
+      next_in (view_at place) c (Ok (ending_of place track.limit (waypoint_in marks places track.last) c)) tracked ≡
+      next (view_at place) c tracked
+  following_begins = next_begins place track.limit (waypoint_in marks places) c track.last track.first
+
+-- An exit while violated: what it says is the answer, and no leg more is asked.
+pub exit_relieves : (c exit : TimePoint) (go flee : Unit {0} → Result Adjustment Refusal) →
+    let said = left_at c exit (instant_after exit (record { 0 = pos 10_000 })) in
+    looked said go flee ≡ pushed_out c exit
+unfolding pushed_out
+exit_relieves c exit go flee = by (instant_after exit (record { 0 = pos 10_000 }))
+  where
+    tested : (b : Bool) →
+        let said = cond b (S.Refused Refusals.Late) (S.Out (later_of exit c)) in
+        looked said go flee ≡ looked said (λ _. Ok A.Lost) (λ _. Ok A.Lost)
+    tested true = refl
+    tested false = refl
+
+    by : (at : Result TimePoint Strayed) →
+        looked (left_at c exit at) go flee ≡ looked (left_at c exit at) (λ _. Ok A.Lost) (λ _. Ok A.Lost)
+    by (Ok late) = tested (lt_z late.0 c.0)
+    by (Err _) = refl
+
+-- ---- What the walks cite.
+
+pub ruleset fleeing = (flee_next, flee_done, exit_relieves)
+
+pub ruleset looking = (look_begins, look_next, look_done)
+
+pub ruleset following = (following_begins, next_next, next_done, next_none)

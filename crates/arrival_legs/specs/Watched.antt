@@ -13,6 +13,8 @@ use Rattle.proximity.specs.Proximity.{proximity_of}
 use Rattle.proximity.specs.declared.detect.Proximity.{Proximity}
 use Rattle.table.specs.Obstacle.{Obstacle, legs_of}
 use Rattle.arrival_search.specs.Search.{View, Searched, arrivals}
+use Rattle.std.specs.Prelude.{Result}
+use Rattle.refusals.specs.declared.Refusal.{Refusal}
 
 -- A leg of an obstacle, and the squared distance that it is held to.
 pub record Watched : Type 0 where
@@ -30,7 +32,7 @@ standing_leg g leg =
       end = record { time = leg.end.time; x = g.x; y = g.y };
     }
 
-unfoldable pub near_of : Waypoint → Float → Leg → Proximity
+unfoldable pub near_of : Waypoint → Float → Leg → Result Proximity Refusal
 near_of g limit leg = proximity_of limit (standing_leg g leg) leg
 
 -- The last place is within the limit of the place asked for (RULES 12.16).

@@ -9,13 +9,15 @@ use crate::near;
 use crate::track::Track;
 use arrival_search::leaving;
 use arrival_search::turn::Adjustment;
-use proximity::detect::{Entry, Proximity};
+use proximity::detect::Proximity;
+use refusals::Refusal;
 use shapes::waypoint::Waypoint;
 use table::reading;
 use times::time::TimePoint;
 
 // Violated: the first exit in the legs of an obstacle from waypoint `from` on, else the last waypoint's time. A leg without
 // an exit leaves it to the next.
+#[tactic(auto, using(crate::proofs::Walking::fleeing), unfolding(arrival_search::specs::Legs::relieved))]
 fn flee_from(
     place: Waypoint,
     track: Track,
@@ -23,71 +25,60 @@ fn flee_from(
     places: &[f64; 800],
     from: usize,
     candidate: TimePoint,
-) -> Adjustment
+) -> Result<Adjustment, Refusal>
     ensures { result ≡ flee (view_at place) candidate (waypoint_in marks.now places.now track.last).time
         (tracked_from track marks.now places.now from) }
 {
-    let mut i = from;
-    while i < track.last {
+    for i in from..track.last {
         let leg = reading::leg_at(marks, places, i);
-        i += 1;
         if leg.end.time.is_before(candidate) {
             continue;
         }
-        let near = near::near_leg(place, track.limit, leg);
-        if let Proximity::Refused(n) = near {
-            return Adjustment::Refused(n);
-        }
-        let Proximity::Passes(_, exit) = near else {
+        let Proximity::Passes(_, exit) = near::near_leg(place, track.limit, leg)? else {
             continue;
         };
         return leaving::left_at(exit, candidate);
     }
-    let end = reading::waypoint_at(marks, places, track.last);
-    let finish = end.time;
+    let finish = reading::waypoint_at(marks, places, track.last).time;
     if candidate.is_before(finish) {
-        return Adjustment::Pushed(finish);
+        return Ok(Adjustment::Pushed(finish));
     }
-    Adjustment::Lost
+    Ok(Adjustment::Lost)
 }
 
 // The obstacle of a track. A leg without an entry leaves it to the next; one without an exit violates
 // the candidate, and the legs after it are asked for an exit.
+#[tactic(auto, using(crate::proofs::Walking::looking), unfolding(arrival_search::specs::Legs::meets))]
 pub fn adjust_candidate_time(
     place: Waypoint,
     track: Track,
     marks: &[u64; 417],
     places: &[f64; 800],
     candidate: TimePoint,
-) -> Adjustment
+) -> Result<Adjustment, Refusal>
     ensures { result ≡ adjust (view_at place) candidate (tracked_from track marks.now places.now track.first) }
 {
-    let mut i = track.first;
-    while i < track.last {
+    for i in track.first..track.last {
         let leg = reading::leg_at(marks, places, i);
-        i += 1;
         if leg.end.time.is_before(candidate) {
             continue;
         }
         if candidate.is_before(leg.start.time) {
-            return Adjustment::Quiet;
+            return Ok(Adjustment::Quiet);
         }
-        let near = near::near_leg(place, track.limit, leg);
-        if let Proximity::Refused(n) = near {
-            return Adjustment::Refused(n);
-        }
-        let Entry::At(enter) = near.entry() else {
+        let near = near::near_leg(place, track.limit, leg)?;
+        let Some(enter) = near.entry() else {
             continue;
         };
         if candidate.is_before(enter) {
-            return Adjustment::Quiet;
+            return Ok(Adjustment::Quiet);
         }
         let Proximity::Passes(_, exit) = near else {
-            return flee_from(place, track, marks, places, i, candidate);
+            return flee_from(place, track, marks, places, i + 1, candidate);
         };
         if candidate.is_before(exit) {
-            return Adjustment::Pushed(exit);
+            return Ok(Adjustment::Pushed(exit));
         }
     }
-    Adjustment::Quiet
+    Ok(Adjustment::Quiet)
 }

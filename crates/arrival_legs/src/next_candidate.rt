@@ -7,57 +7,49 @@ ghost use Rattle.arrival_legs.specs.Table.{ending_of};
 
 use crate::near;
 use crate::track::Track;
-use arrival_search::next::Next;
 use proximity::detect::Proximity;
+use refusals::Refusal;
 use shapes::waypoint::Waypoint;
 use table::reading;
 use times::time::TimePoint;
 
 // The time of the last waypoint, where it is after the candidate and within the limit of the place.
-fn ending(place: Waypoint, limit: f64, last: Waypoint, candidate: TimePoint) -> Next
+#[tactic(auto, unfolding(crate::specs::Table::ending_of))]
+fn ending(place: Waypoint, limit: f64, last: Waypoint, candidate: TimePoint) -> Option<TimePoint>
     ensures { result ≡ ending_of place limit last candidate }
 {
-    let finish = last.time;
-    if !candidate.is_before(finish) {
-        return Next::Missing;
+    if candidate.is_before(last.time) && near::ends_near(place, limit, last) {
+        return Some(last.time);
     }
-    if !near::ends_near(place, limit, last) {
-        return Next::Missing;
-    }
-    Next::At(finish)
+    None
 }
 
 // The obstacle of a track. A leg without an exit leaves it to the next.
+#[tactic(auto, using(crate::proofs::Walking::following), unfolding(arrival_search::specs::Legs::follows))]
 pub fn find_next_candidate_time(
     place: Waypoint,
     track: Track,
     marks: &[u64; 417],
     places: &[f64; 800],
     candidate: TimePoint,
-) -> Next
+) -> Result<Option<TimePoint>, Refusal>
     ensures { result ≡ next (view_at place) candidate (tracked_from track marks.now places.now track.first) }
 {
     if track.last <= track.first {
-        return Next::Missing;
+        return Ok(None);
     }
-    let mut i = track.first;
-    while i < track.last {
+    for i in track.first..track.last {
         let leg = reading::leg_at(marks, places, i);
-        i += 1;
         if leg.end.time.is_before(candidate) {
             continue;
         }
-        let near = near::near_leg(place, track.limit, leg);
-        if let Proximity::Refused(n) = near {
-            return Next::Refused(n);
-        }
-        let Proximity::Passes(_, exit) = near else {
+        let Proximity::Passes(_, exit) = near::near_leg(place, track.limit, leg)? else {
             continue;
         };
         if candidate.is_before(exit) {
-            return Next::At(exit);
+            return Ok(Some(exit));
         }
     }
     let w = reading::waypoint_at(marks, places, track.last);
-    ending(place, track.limit, w, candidate)
+    Ok(ending(place, track.limit, w, candidate))
 }

@@ -14,6 +14,7 @@ pub struct Track {
 }
 
 // The track of obstacle o: it is held to the critical distance of the agent and the obstacle.
+#[tactic(auto, unfolding(crate::specs::Track::track_in))]
 pub fn track_of(p: CircularProfile, marks: &[u64; 417], places: &[f64; 800], o: usize) -> Track
     ensures { result ≡ track_in p marks.now places.now o }
 {

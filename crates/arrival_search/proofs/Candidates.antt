@@ -8,12 +8,13 @@ use Prim.Native.Nat.{◌<◌}
 use Rattle.times.specs.declared.time.TimePoint.{TimePoint}
 use Rattle.arrival_search.specs.Search.{View}
 use Rattle.arrival_search.specs.Sweeps.{All, exit_of, exits_of, finish_of, all_exits, all_finishes, Then, pushed, listed}
-use Rattle.arrival_search.specs.declared.next.Next.TheVariants as X
 use Rattle.arrival_search.proofs.Lists.{all_members}
 use Rattle.arrival_search.proofs.Legs.{Any, Later, Onward, LegGives}
 use Rattle.arrival_search.proofs.Walks.{ObstacleGives, sweep_gives, soonest_gives}
 use Rattle.arrival_search.proofs.Remaining.{Among, remaining, remaining_falls}
 use Rattle.arrival_search.proofs.Sweeping.{sweep_is}
+use Rattle.std.specs.Prelude.{Ok}
+use Rattle.std.specs.Prelude.{None}
 
 module _ {Leg : Type 0} (v : View Leg) (Q : TimePoint → Type 0) where
   -- What holds of all exits of an obstacle holds of that of each leg.
@@ -24,7 +25,7 @@ module _ {Leg : Type 0} (v : View Leg) (Q : TimePoint → Type 0) where
       exit = λ enter exit e.
           let here : Memᴰ exit (exit_of (v.near l)) = rw e (mathlib.Core.List.Memᴰ.head refl) in
           f exit (mathlib.Core.List.Memᴰ.append_left (exits_of v ls) here);
-      refusal = record { own = λ n e. tt; reach = λ enter exit e after. tt };
+      refusal = record { own = λ why e. tt; reach = λ enter exit e after. tt };
     },
     legs_give ls (λ t m. f t (mathlib.Core.List.Memᴰ.append_right (exit_of (v.near l)) m)),
   )
@@ -54,7 +55,7 @@ module _ {Leg : Type 0} (v : View Leg) (os : List (List Leg)) where
   pub then_later : {a b : TimePoint} → Then v os a b → Later (Among v os) a b
   then_later {a} {b} (pushed s apart) =
       rose a b apart (rw (sweep_is v s false) at (sweep_gives v (Among v os) Any a false os sources))
-  then_later {a} {b} (listed s e) = rw e at (soonest_gives v (Among v os) Any a X.Missing os tt sources)
+  then_later {a} {b} (listed s e) = rw e at (soonest_gives v (Among v os) Any a (Ok None) os tt sources)
 
   -- So there are fewer left for a sweep to begin at (RULES D3a).
   pub then_fewer : {a b : TimePoint} → Then v os a b → remaining v os b < remaining v os a

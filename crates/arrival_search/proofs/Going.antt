@@ -11,6 +11,8 @@ use Rattle.times.specs.declared.time.TimePoint.{TimePoint}
 use Rattle.arrival_search.specs.Search.{View, Answered, Refused, gone, turn, search, arrivals, legs_in, watched_obstacles}
 use Rattle.arrival_search.specs.declared.turn.Turn.TheVariants as T
 use Rattle.arrival_search.proofs.Theorems.{finished}
+use Rattle.std.specs.Prelude.{Ok, Err}
+use Rattle.refusals.specs.declared.Refusal.{Refusal}
 
 module _ {Leg : Type 0} (v : View Leg) (os : List (List Leg)) (asked : TimePoint) where
   -- After n sweeps, which listed l, the search from c on gives the answer; a sweep lists one time at most (RULES 12.14).
@@ -42,23 +44,23 @@ module _ {Leg : Type 0} {v : View Leg} {os : List (List Leg)} {asked c : TimePoi
       rw z at g.rest
 
   -- The next sweep begins at t (RULES 12.12).
-  pub going_goes : {t : TimePoint} → turn v os c ≡ T.Goes t → Going v os asked t l (n + 1)
+  pub going_goes : {t : TimePoint} → turn v os c ≡ Ok (T.Goes t) → Going v os asked t l (n + 1)
   going_goes e = record { rest = rw (← add-one n) at (rw e at turned_by); fewer = (let f = g.fewer in omega arith) }
 
   -- So does the next after c is listed (RULES 12.14, 12.17).
-  pub going_lists_goes : {t : TimePoint} → turn v os c ≡ T.ListsGoes t → Going v os asked t (l ++ (c ∷ [])) (n + 1)
+  pub going_lists_goes : {t : TimePoint} → turn v os c ≡ Ok (T.ListsGoes t) → Going v os asked t (l ++ (c ∷ [])) (n + 1)
   going_lists_goes e =
       let longer = length-append l (c ∷ []) in
       record { rest = rw (← add-one n) at (rw e at turned_by); fewer = (let f = g.fewer in omega arith) }
 
   -- The answer is the list so far (RULES 12.11),
-  pub going_ends : turn v os c ≡ T.Ends → arrivals v os asked ≡ Answered l (n + 1)
+  pub going_ends : turn v os c ≡ (Ok T.Ends) → arrivals v os asked ≡ Answered l (n + 1)
   going_ends e = sym (rw (← add-one n) at (rw e at turned_by))
 
   -- or with c behind it (RULES 12.14, 12.17),
-  pub going_lists : turn v os c ≡ T.Lists → arrivals v os asked ≡ Answered (l ++ (c ∷ [])) (n + 1)
+  pub going_lists : turn v os c ≡ (Ok T.Lists) → arrivals v os asked ≡ Answered (l ++ (c ∷ [])) (n + 1)
   going_lists e = sym (rw (← add-one n) at (rw e at turned_by))
 
   -- or the refusal (RULES 12.13).
-  pub going_refused : {m : ℕ} → turn v os c ≡ T.Refused m → arrivals v os asked ≡ Refused m
+  pub going_refused : {why : Refusal} → turn v os c ≡ Err why → arrivals v os asked ≡ Refused why
   going_refused e = sym (rw e at turned_by)

@@ -1,18 +1,22 @@
--- Which numbers a search is refused by, unless it is stuck, from those of its legs: any, any but 8, or the legs' own (RULES D3e).
+-- What a search is refused by, unless it is stuck, from those of its legs: any, any but 8, or the legs' own (RULES D3e).
 -- Assumes nothing.
-use mathlib.Core.Path.{◌≡◌}
+use mathlib.Core.Path.{ap}
+use mathlib.Core.Bool.{true≢false}
 use mathlib.Core.Logic.{◌≢◌, ◌⊎◌, inl, inr}
 use mathlib.Core.List.{List}
-use Prim.Native.Nat.{ℕ, ◌<◌}
+use Prim.Native.Nat.{◌<◌}
 use native.Mathlib.Omega.{arith}
 use Rattle.arrival_search.specs.Search.{View}
 use Rattle.arrival_search.specs.Sweeps.{All, finish_of, Ruled, Refuses, Early}
 use Rattle.arrival_search.proofs.Lists.{all_of, all_map, all_both}
 use Rattle.arrival_search.proofs.Legs.{Any, LegGives}
 use Rattle.arrival_search.proofs.Walks.{ObstacleGives}
+use Rattle.refusals.specs.declared.Refusal.TheVariants as Refusals
+use Rattle.refusals.specs.Names.{refusal_number}
+use Rattle.refusals.specs.declared.Refusal.{Refusal}
 
 module _ {Leg : Type 0} (v : View Leg) where
-  refused_by : (R : ℕ → Type 0) (o : List Leg) → All (Refuses v R) o → R 9 ⊎ Ruled v o → ObstacleGives v Any R o
+  refused_by : (R : Refusal → Type 0) (o : List Leg) → All (Refuses v R) o → R Refusals.Late ⊎ Ruled v o → ObstacleGives v Any R o
   refused_by R o h nine =
       record {
         legs = all_map (Refuses v R) (LegGives v Any R) (λ l r. record { exit = λ enter exit e. tt; refusal = r }) o h;
@@ -21,37 +25,39 @@ module _ {Leg : Type 0} (v : View Leg) where
       }
 
   -- Where R holds of every number below 8, 7 among them.
-  early_refuses : (R : ℕ → Type 0) → ((n : ℕ) → n < 8 → R n) → (l : Leg) → Early v l → Refuses v R l
-  early_refuses R f l early = record { own = λ n e. f n (early n e); reach = λ enter exit e after. f 7 (omega arith) }
+  early_refuses : (R : Refusal → Type 0) → ((why : Refusal) → refusal_number why < 8 → R why) →
+      (l : Leg) → Early v l → Refuses v R l
+  early_refuses R f l early =
+      record { own = λ why e. f why (early why e); reach = λ enter exit e after. f Refusals.Strayed (omega arith) }
 
   module _ (os : List (List Leg)) where
     -- Whatever the legs.
     pub by_any : All (ObstacleGives v Any Any) os
     by_any =
-        let own : (l : Leg) → Refuses v Any l = λ l. record { own = λ n e. tt; reach = λ enter exit e after. tt } in
+        let own : (l : Leg) → Refuses v Any l = λ l. record { own = λ why e. tt; reach = λ enter exit e after. tt } in
         all_of (ObstacleGives v Any Any) (λ o. refused_by Any o (all_of (Refuses v Any) own o) (inl tt)) os
 
     -- Where the legs are refused by numbers below 8 (RULES D3e).
-    pub not_by_eight : All (All (Early v)) os → All (ObstacleGives v Any (λ n. n ≢ 8)) os
+    pub not_by_eight : All (All (Early v)) os → All (ObstacleGives v Any (λ why. why ≢ Refusals.Stuck)) os
     not_by_eight early =
-        let R : ℕ → Type 0 = λ n. n ≢ 8 in
+        let R : Refusal → Type 0 = λ why. why ≢ Refusals.Stuck in
         all_map (All (Early v)) (ObstacleGives v Any R)
         (λ o h. refused_by R o (all_map (Early v) (Refuses v R) (early_refuses R below) o h) (inl nine)) os early
       where
-        below : (n : ℕ) → n < 8 → n ≡ 8 → ⊥
-        below n h same = omega arith
+        below : (why : Refusal) → refusal_number why < 8 → why ≢ Refusals.Stuck
+        below why h same = let number = ap refusal_number same in omega arith
 
-        nine : ◌≡◌ {A = ℕ} 9 8 → ⊥
-        nine same = omega arith
+        nine : Refusals.Late ≢ Refusals.Stuck
+        nine same = absurd (true≢false cc)
 
     -- Where no exit is late, since an obstacle's legs are ruled (RULES 12.9).
-    pub by_legs : (R : ℕ → Type 0) → All (Ruled v) os → All (All (Refuses v R)) os → All (ObstacleGives v Any R) os
+    pub by_legs : (R : Refusal → Type 0) → All (Ruled v) os → All (All (Refuses v R)) os → All (ObstacleGives v Any R) os
     by_legs R ruled legs =
         all_map (λ o. Ruled v o × All (Refuses v R) o) (ObstacleGives v Any R) (λ o h. refused_by R o h.1 (inr h.0)) os
         (all_both (Ruled v) (All (Refuses v R)) os ruled legs)
 
     -- Numbers below 8 are such numbers.
-    pub below_eight : All (All (Early v)) os → All (All (Refuses v (λ n. n < 8))) os
+    pub below_eight : All (All (Early v)) os → All (All (Refuses v (λ why. refusal_number why < 8))) os
     below_eight early =
-        let R : ℕ → Type 0 = λ n. n < 8 in
-        all_map (All (Early v)) (All (Refuses v R)) (λ o. all_map (Early v) (Refuses v R) (early_refuses R (λ n h. h)) o) os early
+        let R : Refusal → Type 0 = λ why. refusal_number why < 8 in
+        all_map (All (Early v)) (All (Refuses v R)) (λ o. all_map (Early v) (Refuses v R) (early_refuses R (λ why h. h)) o) os early

@@ -17,6 +17,8 @@ use Rattle.proximity.specs.declared.detect.Proximity.TheVariants as P
 use Rattle.arrival_search.specs.Search.{View, legs_in, watched_obstacles}
 use Rattle.arrival_search.specs.Sweeps.{exit_of, exits_of, all_exits, all_finishes}
 use Rattle.arrival_search.proofs.Instants.{by_cond, below_trans}
+use Rattle.std.specs.Prelude.{Result, Ok, Err}
+use Rattle.refusals.specs.declared.Refusal.{Refusal}
 
 -- One where t is after c, else none.
 abbrev one : TimePoint → TimePoint → ℕ
@@ -63,11 +65,11 @@ module _ (c t : TimePoint) (h : c.0 <ℤ t.0) where
       (λ (n : Memᴰ t us). omega (arith, one_falls u, member_falls us n))
       (Memᴰ.cases_cons m)
 
-exit_length : (near : Proximity) → length (exit_of near) ≤ 1
-exit_length P.Never = omega arith
-exit_length (P.Enters enter) = omega arith
-exit_length (P.Passes enter exit) = omega arith
-exit_length (P.Refused n) = omega arith
+exit_length : (near : Result Proximity Refusal) → length (exit_of near) ≤ 1
+exit_length (Ok P.Never) = omega arith
+exit_length (Ok (P.Enters enter)) = omega arith
+exit_length (Ok (P.Passes enter exit)) = omega arith
+exit_length (Err why) = omega arith
 
 module _ {Leg : Type 0} (v : View Leg) where
   -- An exit or a finish.

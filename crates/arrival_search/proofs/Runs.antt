@@ -17,6 +17,9 @@ use Rattle.arrival_search.proofs.Walks.{ObstacleGives}
 use Rattle.arrival_search.proofs.Remaining.{remaining}
 use Rattle.arrival_search.proofs.Candidates.{then_fewer}
 use Rattle.arrival_search.proofs.Turns.{Told, turn_told, turn_ends, turn_lists, turn_goes, turn_lists_goes, turn_stuck}
+use Rattle.std.specs.Prelude.{Result, Ok, Err}
+use Rattle.refusals.specs.declared.Refusal.{Refusal}
+use Rattle.refusals.specs.declared.Refusal.TheVariants as Refusals
 
 module _ {Leg : Type 0} (v : View Leg) (os : List (List Leg)) where
   -- ---- From the sequence to the definition: with more sweeps left than instants to begin them at.
@@ -41,7 +44,7 @@ module _ {Leg : Type 0} (v : View Leg) (os : List (List Leg)) where
 
   -- Where it is stuck the search is refused 8 (RULES D3e).
   pub stuck_refused : {a c : TimePoint} → Reaches v os a c → {n : ℕ} → Sweep v os c (suc n) c →
-      (k : ℕ) (l : List TimePoint) (m : ℕ) → remaining v os a < k → search v os k a l m ≡ Refused 8
+      (k : ℕ) (l : List TimePoint) (m : ℕ) → remaining v os a < k → search v os k a l m ≡ Refused Refusals.Stuck
   unfolding search
   stuck_refused r s zero l m h = absurd (omega arith)
   stuck_refused (here e) s (suc k) l m h = rw (e, turn_stuck v os s)
@@ -60,11 +63,11 @@ module _ {Leg : Type 0} (v : View Leg) (os : List (List Leg)) where
     pub at_most : sweeps ≤ k
     pub given : Gives v os a l r sweeps
 
-  module _ (R : ℕ → Type 0) where
+  module _ (R : Refusal → Type 0) where
     -- What an answer tells of it. R holds of a refusal that is not of a stuck sweep.
     abbrev pub Ran : TimePoint → List TimePoint → ℕ → ℕ → Searched → Type 0
     Ran a l m k (Answered r n) = Answers a l m k r n
-    Ran a l m k (Refused n) = R n ⊎ ((n ≡ 8) × Stuck v os a)
+    Ran a l m k (Refused why) = R why ⊎ ((why ≡ Refusals.Stuck) × Stuck v os a)
     Ran a l m k Unfinished = k ≤ remaining v os a
 
     ran_on : {a b : TimePoint} (l p : List TimePoint) (m k : ℕ) → Then v os a b →
@@ -79,26 +82,27 @@ module _ {Leg : Type 0} (v : View Leg) (os : List (List Leg)) where
           at_most = omega arith;
           given = onto r g.sweeps g.given;
         }
-    ran_on l p m k t onto (Refused n) g =
+    ran_on l p m k t onto (Refused why) g =
         ⊎_elim inl (λ s. inr (
           s.0,
           record { at = s.1.at; reached = there t s.1.reached; pushes = s.1.pushes; back = s.1.back },
         )) g
     ran_on l p m k t onto Unfinished g = omega (arith, then_fewer v os t)
 
-    gone_ran : (a : TimePoint) (l : List TimePoint) (m k : ℕ) (u : Turn) (go : TimePoint → List TimePoint → ℕ → Searched) →
+    gone_ran : (a : TimePoint) (l : List TimePoint) (m k : ℕ) (u : Result Turn Refusal) (go : TimePoint → List TimePoint → ℕ →
+        Searched) →
         Told v os R a u → ((b : TimePoint) (p : List TimePoint) (n : ℕ) → Ran b p n k (go b p n)) →
         Ran a l m (suc k) (gone u a l m go)
-    gone_ran a l m k T.Ends go s h =
+    gone_ran a l m k (Ok T.Ends) go s h =
         record { sweeps = 1; counted = omega arith; at_most = omega arith; given = ends s refl }
-    gone_ran a l m k T.Lists go s h =
+    gone_ran a l m k (Ok T.Lists) go s h =
         record { sweeps = 1; counted = omega arith; at_most = omega arith; given = lists s.0 s.1 refl }
-    gone_ran a l m k (T.Goes b) go s h =
+    gone_ran a l m k (Ok (T.Goes b)) go s h =
         ran_on l l m k (pushed s.0.1 s.1) (λ r n. goes s.0.1 s.1) (go b l (suc m)) (h b l (suc m))
-    gone_ran a l m k (T.ListsGoes b) go s h =
+    gone_ran a l m k (Ok (T.ListsGoes b)) go s h =
         let p : List TimePoint = l ++ (a ∷ []) in
         ran_on l p m k (Sweeps.listed s.0 s.1) (λ r n. lists_goes s.0 s.1) (go b p (suc m)) (h b p (suc m))
-    gone_ran a l m k (T.Refused n) go s h =
+    gone_ran a l m k (Err why) go s h =
         ⊎_elim inl (λ e. inr (e.0, record { at = a; reached = here refl; pushes = e.1.0; back = e.1.1 })) s
 
     module _ (gives : All (ObstacleGives v Any R) os) where

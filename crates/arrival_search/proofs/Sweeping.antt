@@ -11,13 +11,15 @@ use Rattle.arrival_search.specs.declared.turn.Adjustment.{Adjustment}
 use Rattle.arrival_search.specs.declared.turn.Adjustment.TheVariants as A
 use Rattle.arrival_search.specs.declared.turn.Swept.{Swept}
 use Rattle.arrival_search.specs.declared.turn.Swept.TheVariants as W
+use Rattle.std.specs.Prelude.{Result, Ok, Err}
+use Rattle.refusals.specs.declared.Refusal.{Refusal}
 
 -- What a sweep says whose n pushes left the candidate at b, with a push before them or none.
-abbrev pub settled : Bool → ℕ → TimePoint → Swept
-settled pushed zero b = cond pushed (W.Moved b) W.Still
-settled pushed (suc n) b = W.Moved b
+abbrev pub settled : Bool → ℕ → TimePoint → Result Swept Refusal
+settled pushed zero b = cond pushed (Ok (W.Moved b)) (Ok W.Still)
+settled pushed (suc n) b = Ok (W.Moved b)
 
-settled_pushed : (n : ℕ) (b : TimePoint) → settled true n b ≡ W.Moved b
+settled_pushed : (n : ℕ) (b : TimePoint) → settled true n b ≡ Ok (W.Moved b)
 settled_pushed zero b = refl
 settled_pushed (suc n) b = refl
 
@@ -33,7 +35,7 @@ module _ {Leg : Type 0} (v : View Leg) where
   sweep_is (push {b} {n} e s) pushed = rw e (sweep_is s true ∙ settled_pushed n b)
 
   -- A push with no result ends it (RULES 12.11).
-  pub loses_is : {os : List (List Leg)} {a : TimePoint} → Loses v os a → (pushed : Bool) → sweep v a pushed os ≡ W.Lost
+  pub loses_is : {os : List (List Leg)} {a : TimePoint} → Loses v os a → (pushed : Bool) → sweep v a pushed os ≡ (Ok W.Lost)
   unfolding sweep
   loses_is (lost e) pushed = rw e
   loses_is (lost_quiet e h) pushed = rw e (loses_is h pushed)
@@ -42,31 +44,32 @@ module _ {Leg : Type 0} (v : View Leg) where
   -- ---- From the definition to the sequence.
 
   -- What an answer tells of the sweep from a on, before which there was a push or none.
-  abbrev Told : Bool → List (List Leg) → TimePoint → Swept → Type 0
-  Told pushed os a W.Still = (pushed ≡ false) × Sweep v os a zero a
-  Told pushed os a (W.Moved b) = (n : ℕ) × ((settled pushed n b ≡ W.Moved b) × Sweep v os a n b)
-  Told pushed os a W.Lost = Loses v os a
-  Told pushed os a (W.Refused n) = Unit {0}
+  abbrev Told : Bool → List (List Leg) → TimePoint → Result Swept Refusal → Type 0
+  Told pushed os a (Ok W.Still) = (pushed ≡ false) × Sweep v os a zero a
+  Told pushed os a (Ok (W.Moved b)) = (n : ℕ) × ((settled pushed n b ≡ Ok (W.Moved b)) × Sweep v os a n b)
+  Told pushed os a (Ok W.Lost) = Loses v os a
+  Told pushed os a (Err why) = Unit {0}
 
   module _ (o : List Leg) (os : List (List Leg)) (a : TimePoint) (pushed : Bool) where
-    quiet_told : adjust v a o ≡ A.Quiet → (s : Swept) → Told pushed os a s → Told pushed (o ∷ os) a s
-    quiet_told e W.Still h = (h.0, quiet e h.1)
-    quiet_told e (W.Moved b) h = (h.0, (h.1.0, quiet e h.1.1))
-    quiet_told e W.Lost h = lost_quiet e h
-    quiet_told e (W.Refused n) h = tt
+    quiet_told : adjust v a o ≡ (Ok A.Quiet) → (s : Result Swept Refusal) → Told pushed os a s → Told pushed (o ∷ os) a s
+    quiet_told e (Ok W.Still) h = (h.0, quiet e h.1)
+    quiet_told e (Ok (W.Moved b)) h = (h.0, (h.1.0, quiet e h.1.1))
+    quiet_told e (Ok W.Lost) h = lost_quiet e h
+    quiet_told e (Err why) h = tt
 
-    push_told : (t : TimePoint) → adjust v a o ≡ A.Pushed t → (s : Swept) → Told true os t s → Told pushed (o ∷ os) a s
-    push_told t e W.Still h = absurd (true≢false h.0)
-    push_told t e (W.Moved b) h = (suc h.0, (refl, push e h.1.1))
-    push_told t e W.Lost h = lost_push e h
-    push_told t e (W.Refused n) h = tt
+    push_told : (t : TimePoint) → adjust v a o ≡ Ok (A.Pushed t) → (s : Result Swept Refusal) → Told true os t s →
+        Told pushed (o ∷ os) a s
+    push_told t e (Ok W.Still) h = absurd (true≢false h.0)
+    push_told t e (Ok (W.Moved b)) h = (suc h.0, (refl, push e h.1.1))
+    push_told t e (Ok W.Lost) h = lost_push e h
+    push_told t e (Err why) h = tt
 
-    swept_told : (x : Adjustment) → adjust v a o ≡ x → (go : TimePoint → Bool → Swept) →
+    swept_told : (x : Result Adjustment Refusal) → adjust v a o ≡ x → (go : TimePoint → Bool → Result Swept Refusal) →
         ((t : TimePoint) (p : Bool) → Told p os t (go t p)) → Told pushed (o ∷ os) a (swept x a pushed go)
-    swept_told A.Quiet e go h = quiet_told e (go a pushed) (h a pushed)
-    swept_told (A.Pushed t) e go h = push_told t e (go t true) (h t true)
-    swept_told A.Lost e go h = lost e
-    swept_told (A.Refused n) e go h = tt
+    swept_told (Ok A.Quiet) e go h = quiet_told e (go a pushed) (h a pushed)
+    swept_told (Ok (A.Pushed t)) e go h = push_told t e (go t true) (h t true)
+    swept_told (Ok A.Lost) e go h = lost e
+    swept_told (Err why) e go h = tt
 
   sweep_told : (pushed : Bool) (os : List (List Leg)) (a : TimePoint) → Told pushed os a (sweep v a pushed os)
   unfolding sweep
@@ -77,20 +80,20 @@ module _ {Leg : Type 0} (v : View Leg) where
 
   module _ (os : List (List Leg)) (a : TimePoint) where
     -- Without a push the candidate stays (RULES 12.14).
-    pub still_sweep : sweep v a false os ≡ W.Still → Sweep v os a zero a
+    pub still_sweep : sweep v a false os ≡ (Ok W.Still) → Sweep v os a zero a
     still_sweep e = (rw e at (sweep_told false os a)).1
 
     -- With one at least, each with a result, it was pushed there (RULES 12.12, 12.13).
-    pub moved_sweep : (b : TimePoint) → sweep v a false os ≡ W.Moved b → (n : ℕ) × Sweep v os a (suc n) b
+    pub moved_sweep : (b : TimePoint) → sweep v a false os ≡ Ok (W.Moved b) → (n : ℕ) × Sweep v os a (suc n) b
     moved_sweep b e = by h.0 h.1.0 h.1.1
       where
-        h : (n : ℕ) × ((settled false n b ≡ W.Moved b) × Sweep v os a n b)
+        h : (n : ℕ) × ((settled false n b ≡ Ok (W.Moved b)) × Sweep v os a n b)
         h = rw e at (sweep_told false os a)
 
-        by : (n : ℕ) → settled false n b ≡ W.Moved b → Sweep v os a n b → (m : ℕ) × Sweep v os a (suc m) b
+        by : (n : ℕ) → settled false n b ≡ Ok (W.Moved b) → Sweep v os a n b → (m : ℕ) × Sweep v os a (suc m) b
         by zero z s = absurd (true≢false (cc))
         by (suc n) z s = (n, s)
 
     -- One had no result (RULES 12.11).
-    pub lost_sweep : sweep v a false os ≡ W.Lost → Loses v os a
+    pub lost_sweep : sweep v a false os ≡ (Ok W.Lost) → Loses v os a
     lost_sweep e = rw e at (sweep_told false os a)

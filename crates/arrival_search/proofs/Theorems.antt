@@ -1,6 +1,7 @@
 -- The arrival search cannot wander: demand 3, of any legs but where a theorem says what it asks of them.
 -- Assumes nothing.
 use mathlib.Core.Path.{◌≡◌, refl, ap, ◌∙◌}
+use mathlib.Core.Bool.{true≢false}
 use mathlib.Core.Logic.{◌≢◌, ◌↔◌, ◌⊎◌, ⊎_elim}
 use mathlib.Core.List.{List, []}
 use Prim.Native.Nat.{ℕ, ◌+◌, ◌≤◌, ◌<◌}
@@ -17,6 +18,9 @@ use Rattle.arrival_search.proofs.Candidates.{then_later}
 use Rattle.arrival_search.proofs.Runs.{Answers, arrivals_ran, gives_answered, stuck_refused}
 use Rattle.arrival_search.proofs.Listing.{gives_listed, gives_fewer}
 use Rattle.arrival_search.proofs.Refusals.{by_any, not_by_eight, by_legs, below_eight}
+use Rattle.refusals.specs.declared.Refusal.TheVariants as Refusals
+use Rattle.refusals.specs.Names.{refusal_number}
+use Rattle.refusals.specs.declared.Refusal.{Refusal}
 
 -- Each sweep begins later than the one before it, so no two begin at one candidate (RULES D3a, D3b).
 pub later : {Leg : Type 0} (v : View Leg) (os : List (List Leg)) {a b : TimePoint} → Then v os a b → a.0 <ℤ b.0
@@ -63,33 +67,33 @@ module _ {Leg : Type 0} (v : View Leg) (os : List (List Leg)) (asked : TimePoint
   sources e = (gives_listed v os asked (answered e).given).sources
 
   -- A sweep that is reached, pushes, each push with a result, and ends where it began is refused 8, whatever the legs,
-  pub stuck_is_refused : Stuck v os asked → arrivals v os asked ≡ Refused 8
+  pub stuck_is_refused : Stuck v os asked → arrivals v os asked ≡ Refused Refusals.Stuck
   unfolding arrivals
   stuck_is_refused s =
       stuck_refused v os s.reached s.back (legs_in os + watched_obstacles os + 1) [] 0 (omega (arith, remaining_bound v os asked))
 
   -- and nothing else is, where no leg itself is refused by 8 or more (RULES D3e).
-  pub stuck : All (All (Early v)) os → (arrivals v os asked ≡ Refused 8) ↔ Stuck v os asked
+  pub stuck : All (All (Early v)) os → (arrivals v os asked ≡ Refused Refusals.Stuck) ↔ Stuck v os asked
   stuck early = (is_stuck, stuck_is_refused)
     where
-      is_stuck : arrivals v os asked ≡ Refused 8 → Stuck v os asked
+      is_stuck : arrivals v os asked ≡ Refused Refusals.Stuck → Stuck v os asked
       is_stuck e =
-          let R : ℕ → Type 0 = λ n. n ≢ 8 in
+          let R : Refusal → Type 0 = λ why. why ≢ Refusals.Stuck in
           ⊎_elim (λ not_eight. absurd (not_eight refl)) (λ s. s.1)
           (rw e at (arrivals_ran v os R (not_by_eight v os early) asked))
 
   -- A search that is not stuck is refused as its legs are, where these follow one another and none has an exit before its start
   -- (RULES 12.9),
-  pub refused : (R : ℕ → Type 0) → All (Ruled v) os → All (All (Refuses v R)) os →
-      {n : ℕ} → arrivals v os asked ≡ Refused n → R n ⊎ ((n ≡ 8) × Stuck v os asked)
+  pub refused : (R : Refusal → Type 0) → All (Ruled v) os → All (All (Refuses v R)) os →
+      {why : Refusal} → arrivals v os asked ≡ Refused why → R why ⊎ ((why ≡ Refusals.Stuck) × Stuck v os asked)
   refused R ruled legs e = rw e at (arrivals_ran v os R (by_legs v os R ruled legs) asked)
 
   -- so never by 9 where those are below 8.
-  pub never_nine : All (Ruled v) os → All (All (Early v)) os → arrivals v os asked ≢ Refused 9
-  never_nine ruled early e = ⊎_elim nine (λ s. eight s.0) (refused (λ n. n < 8) ruled (below_eight v os early) e)
+  pub never_nine : All (Ruled v) os → All (All (Early v)) os → arrivals v os asked ≢ Refused Refusals.Late
+  never_nine ruled early e = ⊎_elim nine (λ s. eight s.0) (refused (λ why. refusal_number why < 8) ruled (below_eight v os early) e)
     where
-      nine : 9 < 8 → ⊥
+      nine : refusal_number Refusals.Late < 8 → ⊥
       nine h = omega arith
 
-      eight : ◌≡◌ {A = ℕ} 9 8 → ⊥
-      eight same = omega arith
+      eight : Refusals.Late ≢ Refusals.Stuck
+      eight same = absurd (true≢false cc)

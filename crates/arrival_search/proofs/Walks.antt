@@ -4,7 +4,6 @@ use mathlib.Core.Path.{◌≡◌, refl, sym, subst}
 use mathlib.Core.Logic.{◌⊎◌, inl, inr, ⊎_elim}
 use mathlib.Core.Bool.{Bool, true, false, cond, ◌&&◌, true≢false}
 use mathlib.Core.List.{List, [], ◌∷◌}
-use Prim.Native.Nat.{ℕ}
 use lib.Signed.{lt_z, ◌≤ℤ◌, lt_z_yes, lt_z_no}
 use Rattle.floats.proofs.Tests.{passed, failed}
 use Rattle.times.specs.declared.time.TimePoint.{TimePoint}
@@ -15,8 +14,6 @@ use Rattle.arrival_search.specs.Legs as S
 use Rattle.arrival_search.specs.Search.{View, looked, or_next, found, swept, finish, last, says, exits, flee, look, adjust}
 use Rattle.arrival_search.specs.Search.{next_at, next_in, next, soonest, sweep}
 use Rattle.arrival_search.specs.Sweeps.{All, finish_of, Fair, Joined, Ruled}
-use Rattle.arrival_search.specs.declared.next.Next.{Next}
-use Rattle.arrival_search.specs.declared.next.Next.TheVariants as X
 use Rattle.arrival_search.specs.declared.turn.Adjustment.{Adjustment}
 use Rattle.arrival_search.specs.declared.turn.Adjustment.TheVariants as A
 use Rattle.arrival_search.specs.declared.turn.Swept.{Swept}
@@ -25,67 +22,76 @@ use Rattle.arrival_search.proofs.Instants.{by_cond, below_trans}
 use Rattle.arrival_search.proofs.Lists.{all_of}
 use Rattle.arrival_search.proofs.Legs.{OnSays, OnNext, Later, Onward, LegGives, Timely}
 use Rattle.arrival_search.proofs.Legs.{says_gives, exits_gives, next_at_gives, sooner_gives}
+use Rattle.std.specs.Prelude.{Result, Ok, Err}
+use Rattle.std.specs.Prelude.{Option, Some, None}
+use Rattle.refusals.specs.declared.Refusal.{Refusal}
+use Rattle.refusals.specs.declared.Refusal.TheVariants as Refusals
 
--- Q holds of the instant, R of the number of the refusal, where there is one.
-abbrev pub OnAdjustment : (TimePoint → Type 0) → (ℕ → Type 0) → Adjustment → Type 0
-OnAdjustment Q R A.Quiet = Unit {0}
-OnAdjustment Q R (A.Pushed t) = Q t
-OnAdjustment Q R A.Lost = Unit {0}
-OnAdjustment Q R (A.Refused n) = R n
+-- Q holds of the instant, R of the refusal, where there is one.
+abbrev pub OnAdjustment : (TimePoint → Type 0) → (Refusal → Type 0) → Result Adjustment Refusal → Type 0
+OnAdjustment Q R (Ok A.Quiet) = Unit {0}
+OnAdjustment Q R (Ok (A.Pushed t)) = Q t
+OnAdjustment Q R (Ok A.Lost) = Unit {0}
+OnAdjustment Q R (Err why) = R why
 
-abbrev pub OnSwept : (TimePoint → Type 0) → (ℕ → Type 0) → Swept → Type 0
-OnSwept Q R W.Still = Unit {0}
-OnSwept Q R (W.Moved t) = Q t
-OnSwept Q R W.Lost = Unit {0}
-OnSwept Q R (W.Refused n) = R n
+abbrev pub OnSwept : (TimePoint → Type 0) → (Refusal → Type 0) → Result Swept Refusal → Type 0
+OnSwept Q R (Ok W.Still) = Unit {0}
+OnSwept Q R (Ok (W.Moved t)) = Q t
+OnSwept Q R (Ok W.Lost) = Unit {0}
+OnSwept Q R (Err why) = R why
 
 onward_trans : (Q : TimePoint → Type 0) {a b c : TimePoint} → Onward Q a b → Onward Q b c → Onward Q a c
 onward_trans Q {c} (inl e) s = subst (λ (x : TimePoint). Onward Q x c) e s
 onward_trans Q {a} (inr h) (inl e) = inr (subst (Later Q a) (sym e) h)
 onward_trans Q (inr h) (inr k) = inr (below_trans h.0 k.0, k.1)
 
-looked_gives : (Q : TimePoint → Type 0) (R : ℕ → Type 0) (s : Says) (go flee : Unit {0} → Adjustment) → OnSays Q R s →
+looked_gives : (Q : TimePoint → Type 0) (R : Refusal → Type 0) (s : Says) (go flee : Unit {0} → Result Adjustment Refusal) →
+    OnSays Q R s →
     OnAdjustment Q R (go tt) → (s ≡ S.Held → OnAdjustment Q R (flee tt)) → OnAdjustment Q R (looked s go flee)
 looked_gives Q R S.Pass go flee h k m = k
 looked_gives Q R S.Clear go flee h k m = tt
 looked_gives Q R S.Held go flee h k m = m refl
 looked_gives Q R (S.Out t) go flee h k m = h
-looked_gives Q R (S.Refused n) go flee h k m = h
+looked_gives Q R (S.Refused why) go flee h k m = h
 
-or_else_gives : (Q : TimePoint → Type 0) (R : ℕ → Type 0) (t : Next) (go : Unit {0} → Next) →
+or_else_gives : (Q : TimePoint → Type 0) (R : Refusal → Type 0) (t : Result (Option TimePoint) Refusal) (go : Unit {0} →
+    Result (Option TimePoint) Refusal) →
     OnNext Q R t → OnNext Q R (go tt) → OnNext Q R (or_next t go)
-or_else_gives Q R X.Missing go h k = k
-or_else_gives Q R (X.At t) go h k = h
-or_else_gives Q R (X.Refused n) go h k = h
+or_else_gives Q R (Ok None) go h k = k
+or_else_gives Q R (Ok (Some t)) go h k = h
+or_else_gives Q R (Err why) go h k = h
 
-found_gives : (Q : TimePoint → Type 0) (R : ℕ → Type 0) (t best : Next) (go : Next → Next) →
-    OnNext Q R t → OnNext Q R best → ((b : Next) → OnNext Q R b → OnNext Q R (go b)) → OnNext Q R (found t best go)
-found_gives Q R X.Missing best go h b k = k best b
-found_gives Q R (X.At t) best go h b k = k (sooner t best) (sooner_gives Q R t best h b)
-found_gives Q R (X.Refused n) best go h b k = h
+found_gives : (Q : TimePoint → Type 0) (R : Refusal →
+    Type 0) (t best : Result (Option TimePoint) Refusal) (go : Result (Option TimePoint) Refusal →
+    Result (Option TimePoint) Refusal) →
+    OnNext Q R t → OnNext Q R best → ((b : Result (Option TimePoint) Refusal) → OnNext Q R b → OnNext Q R (go b)) →
+    OnNext Q R (found t best go)
+found_gives Q R (Ok None) best go h b k = k best b
+found_gives Q R (Ok (Some t)) best go h b k = k (sooner t best) (sooner_gives Q R t best h b)
+found_gives Q R (Err why) best go h b k = h
 
-swept_map : (Q F : TimePoint → Type 0) (R : ℕ → Type 0) → ((t : TimePoint) → Q t → F t) →
-    (s : Swept) → OnSwept Q R s → OnSwept F R s
-swept_map Q F R f W.Still h = tt
-swept_map Q F R f (W.Moved t) h = f t h
-swept_map Q F R f W.Lost h = tt
-swept_map Q F R f (W.Refused n) h = h
+swept_map : (Q F : TimePoint → Type 0) (R : Refusal → Type 0) → ((t : TimePoint) → Q t → F t) →
+    (s : Result Swept Refusal) → OnSwept Q R s → OnSwept F R s
+swept_map Q F R f (Ok W.Still) h = tt
+swept_map Q F R f (Ok (W.Moved t)) h = f t h
+swept_map Q F R f (Ok W.Lost) h = tt
+swept_map Q F R f (Err why) h = h
 
-swept_gives : (Q : TimePoint → Type 0) (R : ℕ → Type 0) (a : Adjustment) (c : TimePoint) (pushed : Bool)
-    (go : TimePoint → Bool → Swept) → OnAdjustment (Onward Q c) R a →
+swept_gives : (Q : TimePoint → Type 0) (R : Refusal → Type 0) (a : Result Adjustment Refusal) (c : TimePoint) (pushed : Bool)
+    (go : TimePoint → Bool → Result Swept Refusal) → OnAdjustment (Onward Q c) R a →
     ((t : TimePoint) (p : Bool) → OnSwept (Onward Q t) R (go t p)) → OnSwept (Onward Q c) R (swept a c pushed go)
-swept_gives Q R A.Quiet c pushed go h k = k c pushed
-swept_gives Q R (A.Pushed t) c pushed go h k =
+swept_gives Q R (Ok A.Quiet) c pushed go h k = k c pushed
+swept_gives Q R (Ok (A.Pushed t)) c pushed go h k =
     swept_map (Onward Q t) (Onward Q c) R (λ u. onward_trans Q h) (go t true) (k t true)
-swept_gives Q R A.Lost c pushed go h k = tt
-swept_gives Q R (A.Refused n) c pushed go h k = h
+swept_gives Q R (Ok A.Lost) c pushed go h k = tt
+swept_gives Q R (Err why) c pushed go h k = h
 
-module _ {Leg : Type 0} (v : View Leg) (Q : TimePoint → Type 0) (R : ℕ → Type 0) where
+module _ {Leg : Type 0} (v : View Leg) (Q : TimePoint → Type 0) (R : Refusal → Type 0) where
   -- Q holds of its exits and its finish, R of the refusals of its legs, and of 9 too unless the legs are ruled.
   pub record ObstacleGives (o : List Leg) : Type 0 where
     pub legs : All (LegGives v Q R) o
     pub finishes : All Q (finish_of v o)
-    pub nine : R 9 ⊎ Ruled v o
+    pub nine : R Refusals.Late ⊎ Ruled v o
 
   -- ---- An exit after a violation is in time (RULES 12.8, 12.9).
 
@@ -110,7 +116,8 @@ module _ {Leg : Type 0} (v : View Leg) (Q : TimePoint → Type 0) (R : ℕ → T
       )
 
   -- So no exit after a violation is late, unless R holds of 9 anyway.
-  held_timely : (c : TimePoint) (l : Leg) (ls : List Leg) → R 9 ⊎ Ruled v (l ∷ ls) → says v c l ≡ S.Held → All (Timely v Q R c) ls
+  held_timely : (c : TimePoint) (l : Leg) (ls : List Leg) → R Refusals.Late ⊎ Ruled v (l ∷ ls) → says v c l ≡ S.Held →
+      All (Timely v Q R c) ls
   held_timely c l ls (inl nine) held = all_of (Timely v Q R c) (λ m enter exit e. inl nine) ls
   held_timely c l ls (inr ruled) held = after_timely c l ls (held_until c l held) ruled.1.0 ruled.1.1
 
@@ -126,7 +133,7 @@ module _ {Leg : Type 0} (v : View Leg) (Q : TimePoint → Type 0) (R : ℕ → T
       looked_gives (Onward Q c) R (exits v c l) (λ _. flee v c f ls) (λ _. flee v c f ls)
       (exits_gives v Q R c l g.0 timely.0) rest (λ _. rest)
 
-  look_gives : (c f : TimePoint) (ls : List Leg) → Q f → All (LegGives v Q R) ls → R 9 ⊎ Ruled v ls →
+  look_gives : (c f : TimePoint) (ls : List Leg) → Q f → All (LegGives v Q R) ls → R Refusals.Late ⊎ Ruled v ls →
       OnAdjustment (Onward Q c) R (look v c f ls)
   unfolding look
   look_gives c f [] q g nine = tt
@@ -152,7 +159,8 @@ module _ {Leg : Type 0} (v : View Leg) (Q : TimePoint → Type 0) (R : ℕ → T
 
   -- ---- The next candidate (RULES 12.15 to 12.17).
 
-  next_in_gives : (p : TimePoint) (end : Next) (ls : List Leg) → OnNext (Later Q p) R end → All (LegGives v Q R) ls →
+  next_in_gives : (p : TimePoint) (end : Result (Option TimePoint) Refusal) (ls : List Leg) → OnNext (Later Q p) R end →
+      All (LegGives v Q R) ls →
       OnNext (Later Q p) R (next_in v p end ls)
   unfolding next_in
   next_in_gives p end [] h g = h
@@ -166,13 +174,14 @@ module _ {Leg : Type 0} (v : View Leg) (Q : TimePoint → Type 0) (R : ℕ → T
   next_gives p (l ∷ ls) g =
       let f = finish v l ls in
       let near = v.ends_near (last v l ls) in
-      next_in_gives p (cond (lt_z p.0 f.0 && near) (X.At f) X.Missing) (l ∷ ls)
+      next_in_gives p (cond (lt_z p.0 f.0 && near) (Ok (Some f)) (Ok None)) (l ∷ ls)
       (by_cond (OnNext (Later Q p) R) (lt_z p.0 f.0 && near)
       (λ k. (lt_z_yes (passed (both (lt_z p.0 f.0) near k).0), g.finishes.0)) (λ _. tt))
       g.legs
 
   -- The next candidate is a later exit or finish (RULES 12.17).
-  pub soonest_gives : (p : TimePoint) (best : Next) (os : List (List Leg)) → OnNext (Later Q p) R best → All ObstacleGives os →
+  pub soonest_gives : (p : TimePoint) (best : Result (Option TimePoint) Refusal) (os : List (List Leg)) →
+      OnNext (Later Q p) R best → All ObstacleGives os →
       OnNext (Later Q p) R (soonest v p best os)
   unfolding soonest
   soonest_gives p best [] h g = h

@@ -4,12 +4,16 @@ use Rattle.std.specs.Prelude.{ℕ, zero, suc, ◌<◌, ◌≡◌, ◌≢◌, ◌
 use mathlib.Core.List.{List, [], ◌∷◌, ◌++◌, Memᴰ}
 use Rattle.times.specs.Time.{instant_after}
 use Rattle.times.specs.declared.time.TimePoint.{TimePoint}
-use Rattle.times.specs.declared.time.Instant.TheVariants as I
 use Rattle.proximity.specs.declared.detect.Proximity.{Proximity}
 use Rattle.proximity.specs.declared.detect.Proximity.TheVariants as P
 use Rattle.arrival_search.specs.Search.{View, finish, adjust, soonest}
-use Rattle.arrival_search.specs.declared.next.Next.TheVariants as X
 use Rattle.arrival_search.specs.declared.turn.Adjustment.TheVariants as A
+use Rattle.std.specs.Prelude.{Result, Ok, Err}
+use Rattle.times.specs.Time.{strayed}
+use Rattle.refusals.specs.declared.Refusal.{Refusal}
+use Rattle.std.specs.Prelude.{Some, None}
+use Rattle.refusals.specs.declared.Refusal.TheVariants as Refusals
+use Rattle.refusals.specs.Names.{refusal_number}
 
 -- ---- Lists of instants.
 
@@ -23,11 +27,11 @@ Rising [] = Unit {0}
 Rising (t ∷ ts) = All (λ u. t.0 <ℤ u.0) ts × Rising ts
 
 -- The exit of a proximity, where it has one.
-abbrev pub exit_of : Proximity → List TimePoint
-exit_of (P.Passes enter exit) = exit ∷ []
-exit_of P.Never = []
-exit_of (P.Enters enter) = []
-exit_of (P.Refused n) = []
+abbrev pub exit_of : Result Proximity Refusal → List TimePoint
+exit_of (Ok (P.Passes enter exit)) = exit ∷ []
+exit_of (Ok P.Never) = []
+exit_of (Ok (P.Enters enter)) = []
+exit_of (Err why) = []
 
 module _ {Leg : Type 0} (v : View Leg) where
   -- ---- Where times come from (RULES D3c).
@@ -58,24 +62,24 @@ module _ {Leg : Type 0} (v : View Leg) where
   pub data Sweep : List (List Leg) → TimePoint → ℕ → TimePoint → Type 0 where
     done : {a b : TimePoint} → a ≡ b → Sweep [] a zero b
     quiet : {o : List Leg} {os : List (List Leg)} {a b : TimePoint} {n : ℕ} →
-        adjust v a o ≡ A.Quiet → Sweep os a n b → Sweep (o ∷ os) a n b
+        adjust v a o ≡ (Ok A.Quiet) → Sweep os a n b → Sweep (o ∷ os) a n b
     push : {o : List Leg} {os : List (List Leg)} {a b t : TimePoint} {n : ℕ} →
-        adjust v a o ≡ A.Pushed t → Sweep os t n b → Sweep (o ∷ os) a (suc n) b
+        adjust v a o ≡ Ok (A.Pushed t) → Sweep os t n b → Sweep (o ∷ os) a (suc n) b
 
   -- A sweep over these obstacles, begun at a, meets a push with no result.
   pub data Loses : List (List Leg) → TimePoint → Type 0 where
-    lost : {o : List Leg} {os : List (List Leg)} {a : TimePoint} → adjust v a o ≡ A.Lost → Loses (o ∷ os) a
+    lost : {o : List Leg} {os : List (List Leg)} {a : TimePoint} → adjust v a o ≡ (Ok A.Lost) → Loses (o ∷ os) a
     lost_quiet : {o : List Leg} {os : List (List Leg)} {a : TimePoint} →
-        adjust v a o ≡ A.Quiet → Loses os a → Loses (o ∷ os) a
+        adjust v a o ≡ (Ok A.Quiet) → Loses os a → Loses (o ∷ os) a
     lost_push : {o : List Leg} {os : List (List Leg)} {a t : TimePoint} →
-        adjust v a o ≡ A.Pushed t → Loses os t → Loses (o ∷ os) a
+        adjust v a o ≡ Ok (A.Pushed t) → Loses os t → Loses (o ∷ os) a
 
   module _ (os : List (List Leg)) where
     -- The sweep after the one that began at a begins at b: the candidate was pushed there, or a was quiet and b is the smallest
     -- next candidate.
     pub data Then (a b : TimePoint) : Type 0 where
       pushed : {n : ℕ} → Sweep os a (suc n) b → a ≢ b → Then a b
-      listed : Sweep os a zero a → soonest v a X.Missing os ≡ X.At b → Then a b
+      listed : Sweep os a zero a → soonest v a (Ok None) os ≡ Ok (Some b) → Then a b
 
     -- Some sweep begins at b where the first begins at a.
     pub data Reaches : TimePoint → TimePoint → Type 0 where
@@ -93,18 +97,18 @@ module _ {Leg : Type 0} (v : View Leg) where
     pub data Gives : TimePoint → List TimePoint → List TimePoint → ℕ → Type 0 where
       ends : {a : TimePoint} {l r : List TimePoint} → Loses os a → l ≡ r → Gives a l r (suc zero)
       lists : {a : TimePoint} {l r : List TimePoint} →
-          Sweep os a zero a → soonest v a X.Missing os ≡ X.Missing → l ++ (a ∷ []) ≡ r → Gives a l r (suc zero)
+          Sweep os a zero a → soonest v a (Ok None) os ≡ (Ok None) → l ++ (a ∷ []) ≡ r → Gives a l r (suc zero)
       goes : {a b : TimePoint} {l r : List TimePoint} {m n : ℕ} →
           Sweep os a (suc m) b → a ≢ b → Gives b l r n → Gives a l r (suc n)
       lists_goes : {a b : TimePoint} {l r : List TimePoint} {n : ℕ} →
-          Sweep os a zero a → soonest v a X.Missing os ≡ X.At b → Gives b (l ++ (a ∷ [])) r n → Gives a l r (suc n)
+          Sweep os a zero a → soonest v a (Ok None) os ≡ Ok (Some b) → Gives b (l ++ (a ∷ [])) r n → Gives a l r (suc n)
 
   -- ---- What geometry gives of a leg, and of an obstacle's legs.
 
   -- It ends no earlier than it starts, and its exit is no earlier than its start.
   pub record Fair (l : Leg) : Type 0 where
     pub rises : (v.start l).0 ≤ℤ (v.end l).0
-    pub exit_after_start : (enter exit : TimePoint) → v.near l ≡ P.Passes enter exit → (v.start l).0 ≤ℤ exit.0
+    pub exit_after_start : (enter exit : TimePoint) → v.near l ≡ Ok (P.Passes enter exit) → (v.start l).0 ≤ℤ exit.0
 
   abbrev pub Joined : Leg → List Leg → Type 0
   Joined l [] = Unit {0}
@@ -115,12 +119,12 @@ module _ {Leg : Type 0} (v : View Leg) where
   Ruled [] = Unit {0}
   Ruled (l ∷ ls) = Fair l × (Joined l ls × Ruled ls)
 
-  -- R holds of the number that a leg is refused by, and of 7 where 10,000 ns after its exit are past 2^53 ns (RULES 4.7, 12.9).
-  pub record Refuses (R : ℕ → Type 0) (l : Leg) : Type 0 where
-    pub own : (n : ℕ) → v.near l ≡ P.Refused n → R n
-    pub reach : (enter exit : TimePoint) → v.near l ≡ P.Passes enter exit →
-        instant_after exit (record { 0 = pos 10_000 }) ≡ I.Strayed → R 7
+  -- R holds of what a leg is refused by, and of 7 where 10,000 ns after its exit are past 2^53 ns (RULES 4.7, 12.9).
+  pub record Refuses (R : Refusal → Type 0) (l : Leg) : Type 0 where
+    pub own : (why : Refusal) → v.near l ≡ Err why → R why
+    pub reach : (enter exit : TimePoint) → v.near l ≡ Ok (P.Passes enter exit) →
+        instant_after exit (record { 0 = pos 10_000 }) ≡ strayed → R Refusals.Strayed
 
   -- A leg refuses by a number below 8.
   abbrev pub Early : Leg → Type 0
-  Early l = (n : ℕ) → v.near l ≡ P.Refused n → n < 8
+  Early l = (why : Refusal) → v.near l ≡ Err why → refusal_number why < 8

@@ -3,18 +3,17 @@ ghost use Rattle.std.specs.Prelude.{◌≡◌};
 ghost use Rattle.arrival_search.specs.Search.{pushed_out};
 
 use crate::turn::Adjustment;
-use times::time::{Duration, Instant, TimePoint};
+use refusals::Refusal;
+use times::time::{Duration, TimePoint};
 
 // The exit, and no instant before the candidate. An exit more than 10,000 ns before the candidate is where the Rust asserts.
-pub fn left_at(exit: TimePoint, candidate: TimePoint) -> Adjustment
+#[tactic(auto, unfolding(crate::specs::Search::pushed_out))]
+pub fn left_at(exit: TimePoint, candidate: TimePoint) -> Result<Adjustment, Refusal>
     ensures { result ≡ pushed_out candidate exit }
 {
-    let latest = exit.plus(Duration(10000));
-    let Instant::At(late) = latest else {
-        return Adjustment::Refused(refusals::STRAYED);
-    };
+    let late = exit.plus(Duration(10000))?;
     if late.is_before(candidate) {
-        return Adjustment::Refused(refusals::LATE);
+        return Err(Refusal::Late);
     }
-    Adjustment::Pushed(exit.max(candidate))
+    Ok(Adjustment::Pushed(exit.max(candidate)))
 }

@@ -2,28 +2,19 @@
 ghost use Rattle.std.specs.Prelude.{◌≡◌};
 ghost use Rattle.arrival_search.specs.Legs.{sooner};
 
+use refusals::Refusal;
 use times::time::TimePoint;
 
-// None, an instant, or a refusal and its number.
-#[derive(Clone, Copy)]
-pub enum Next {
-    Missing,
-    At(TimePoint),
-    Refused(u64),
-}
-
 // The smaller of what an obstacle gives and the best so far.
-pub fn sooner_of(check: TimePoint, best: Next) -> Next
+#[tactic(auto, unfolding(crate::specs::Legs::sooner, times::specs::Time::earlier_of))]
+pub fn sooner_of(
+    check: TimePoint,
+    best: Result<Option<TimePoint>, Refusal>,
+) -> Result<Option<TimePoint>, Refusal>
     ensures { result ≡ sooner check best }
 {
-    match best {
-        Next::Refused(n) => Next::Refused(n),
-        Next::Missing => Next::At(check),
-        Next::At(t) => {
-            if check.is_before(t) {
-                return Next::At(check);
-            }
-            Next::At(t)
-        }
+    match best? {
+        None => Ok(Some(check)),
+        Some(t) => Ok(Some(t.min(check))),
     }
 }

@@ -10,8 +10,6 @@ use lib.Ieee.{Float}
 use lib.ListN.{length}
 use Rattle.times.specs.declared.time.TimePoint.{TimePoint}
 use Rattle.shapes.specs.Distance.{critical_distance_squared}
-use Rattle.domain.specs.declared.limits.Examined.{Examined}
-use Rattle.domain.specs.declared.limits.Examined.TheVariants as X
 use Rattle.shapes.specs.declared.profile.CircularProfile.{CircularProfile}
 use Rattle.shapes.specs.declared.waypoint.Leg.{Leg}
 use Rattle.shapes.specs.declared.waypoint.Waypoint.{Waypoint}
@@ -23,6 +21,8 @@ use Rattle.arrival_search.specs.Search.{Answered, legs_in, watched_obstacles}
 use Rattle.arrival_search.proofs.Theorems.{at_most, fewer}
 use Rattle.arrival_legs.specs.Watched.{view_at, watched_legs, watched_all, arrivals_at}
 use Rattle.arrival_times.specs.Asked.{asked_arrivals}
+use Rattle.std.specs.Prelude.{Result, Ok, Err}
+use Rattle.refusals.specs.declared.Refusal.{Refusal}
 
 -- Every leg is watched,
 length_watched : (limit : Float) (legs : List Leg) → length (watched_legs limit legs) ≡ length legs
@@ -61,7 +61,7 @@ few_watched p os e =
 
 -- An input that is accepted has few.
 fine_is_few : (p : CircularProfile) (agent : Leg) (lent : Lent) →
-    agent_examined p agent lent ≡ X.Fine → is_few (obstacles_of lent) ≡ true
+    agent_examined p agent lent ≡ (Ok tt) → is_few (obstacles_of lent) ≡ true
 fine_is_few p agent lent e = shaped_few (obstacles_of lent) (fine_shaped p agent lent e)
 
 -- So a search that is answered makes at most 289 sweeps, and lists no more times than that (RULES 12.14, 12.19).
@@ -81,6 +81,6 @@ asked_few p g lent l n e = by (agent_examined p agent lent) refl
     agent : Leg
     agent = record { start = g; end = g }
 
-    by : (x : Examined) → agent_examined p agent lent ≡ x → length l ≤ 289
-    by X.Fine fine = few_listed p g (obstacles_of lent) l n (fine_is_few p agent lent fine) (rw fine at e)
-    by (X.Refused m) refused = absurd (true≢false (cc (rw refused at e)))
+    by : (x : Result Unit Refusal) → agent_examined p agent lent ≡ x → length l ≤ 289
+    by (Ok tt) fine = few_listed p g (obstacles_of lent) l n (fine_is_few p agent lent fine) (rw fine at e)
+    by (Err m) refused = absurd (true≢false (cc (rw refused at e)))

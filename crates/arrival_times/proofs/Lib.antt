@@ -1,6 +1,5 @@
 mod Sweeping
 mod Keeping
-mod Wiping
 mod Telling
 pub mod Few
 mod Room

@@ -5,8 +5,10 @@ use Rattle.lent.specs.Outcome.{Outcome, Gives, Refuses}
 use Rattle.number_words.specs.Word.{word_of}
 use Rattle.arrival_search.specs.Search.{Searched, Answered, Refused, Unfinished}
 use Rattle.arrival_times.specs.Listing.{nanoseconds_of}
+use Rattle.std.specs.Prelude.{Result, Ok, Err}
+use Rattle.refusals.specs.declared.Refusal.{Refusal}
 use Rattle.arrival_times.specs.declared.listing.Arrivals.{Arrivals}
-use Rattle.arrival_times.specs.declared.listing.Arrivals.TheVariants as C
+use Rattle.refusals.specs.Names.{refusal_number}
 
 -- Nanoseconds, a word each.
 unfoldable pub words_of : List ℤ → List ℕ
@@ -16,10 +18,10 @@ words_of times = map word_of times
 -- never the answer (`finished` of arrivals), and 0 is no refusal's number.
 unfoldable pub arrivals_outcome : Searched → Outcome
 arrivals_outcome (Answered l n) = Gives (length l ∷ (n ∷ words_of (nanoseconds_of l)))
-arrivals_outcome (Refused n) = Refuses n
+arrivals_outcome (Refused why) = Refuses (refusal_number why)
 arrivals_outcome Unfinished = Refuses 0
 
 -- The same of the counts and the list that a search leaves: its times stand at the front.
-unfoldable pub listing_outcome : Arrivals → List ℤ → Outcome
-listing_outcome (C.Listed count sweeps) list = Gives (count ∷ (sweeps ∷ words_of (take count list)))
-listing_outcome (C.Refused n) list = Refuses n
+unfoldable pub listing_outcome : Result Arrivals Refusal → List ℤ → Outcome
+listing_outcome (Ok found) list = Gives (found.listed ∷ (found.sweeps ∷ words_of (take found.listed list)))
+listing_outcome (Err why) list = Refuses (refusal_number why)

@@ -5,13 +5,14 @@ ghost use Rattle.arrival_times.specs.Asked.{asked_arrivals};
 
 use crate::listing;
 use crate::listing::Arrivals;
-use domain::limits::Examined;
+use refusals::Refusal;
 use shapes::profile::CircularProfile;
 use shapes::waypoint::{Leg, Waypoint};
 use table_checks::examine;
 use table_packing::packing;
 
 // The safe arrival times at a place from its time on, for an agent that stands there, among the obstacles of a lent table.
+#[tactic(auto, using(crate::proofs::Telling::packed), unfolding(crate::specs::Asked::asked_arrivals))]
 pub fn arrival_times(
     p: CircularProfile,
     place: Waypoint,
@@ -21,7 +22,7 @@ pub fn arrival_times(
     xs: &[f64],
     ys: &[f64],
     list: &mut [i64],
-) -> Arrivals
+) -> Result<Arrivals, Refusal>
     ensures { Told
         (asked_arrivals p place
         (lent_of starts.now numbers.now times.now xs.now ys.now))
@@ -34,12 +35,9 @@ pub fn arrival_times(
     let mut marks = [0u64; 417];
     let mut places = [0.0; 800];
     let packed = packing::pack(starts, numbers, times, xs, ys, &mut marks, &mut places);
-    let input = examine::examine(packed, p, agent, &marks, &places);
-    match input {
-        Examined::Refused(n) => {
-            listing::wipe_times(list, 0);
-            Arrivals::Refused(n)
-        }
-        Examined::Fine => { listing::compute_safe_arrival_times(p, place, &marks, &places, list) }
+    if let Err(why) = examine::examine(packed, p, agent, &marks, &places) {
+        listing::wipe_times(list, 0);
+        return Err(why);
     }
+    listing::compute_safe_arrival_times(p, place, &marks, &places, list)
 }

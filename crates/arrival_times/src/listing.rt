@@ -6,15 +6,16 @@ ghost use Rattle.arrival_times.specs.Listing.{Stored, Told, wiped_times};
 
 use crate::turn;
 use arrival_search::turn::Turn;
+use refusals::Refusal;
 use shapes::profile::CircularProfile;
 use shapes::waypoint::Waypoint;
 use times::time::TimePoint;
 
-// How many times are listed, and by how many sweeps; or a refusal and its number.
-#[derive(Clone, Copy)]
-pub enum Arrivals {
-    Listed(usize, usize),
-    Refused(u64),
+// How many times are listed, and by how many sweeps.
+#[derive(Clone, Copy, Debug, PartialEq, Eq)]
+pub struct Arrivals {
+    pub listed: usize,
+    pub sweeps: usize,
 }
 
 // Puts an instant at place i of a list, where it has one.
@@ -28,25 +29,24 @@ fn put_time(list: &mut [i64], i: usize, t: TimePoint)
 }
 
 // Sets every instant at or after `from` to 0.
+#[tactic(auto, unfolding(crate::specs::Listing::wiped_times))]
 pub(crate) fn wipe_times(list: &mut [i64], from: usize)
     ensures { list.new ≡ wiped_times list.old from }
 {
-    let mut i = from;
-    while i < list.len() {
-        list[i] = 0;
-        i += 1;
-    }
+    let kept = from.min(list.len());
+    list[kept..].fill(0);
 }
 
 // The search; its times stand at the front of `list` as far as there is room. It ends
 // because no search makes more sweeps than one for each leg and obstacle and one more.
+#[tactic(auto, using(crate::proofs::Keeping::keeping))]
 fn search_times(
     p: CircularProfile,
     place: Waypoint,
     marks: &[u64; 417],
     places: &[f64; 800],
     list: &mut [i64],
-) -> Arrivals
+) -> Result<Arrivals, Refusal>
     ensures { Stored (arrivals_at p place (obstacles_in marks.now places.now)) list.old list.new
         result }
 {
@@ -54,24 +54,21 @@ fn search_times(
     let mut listed = 0;
     let mut sweeps = 0;
     loop {
-        let turn = turn::turn_from(p, place, marks, places, candidate);
+        let turn = turn::turn_from(p, place, marks, places, candidate)?;
+        sweeps += 1;
         match turn {
-            Turn::Ends => return Arrivals::Listed(listed, sweeps + 1),
+            Turn::Ends => return Ok(Arrivals { listed, sweeps }),
             Turn::Lists => {
                 put_time(list, listed, candidate);
-                return Arrivals::Listed(listed + 1, sweeps + 1);
+                listed += 1;
+                return Ok(Arrivals { listed, sweeps });
             }
-            Turn::Goes(t) => {
-                candidate = t;
-                sweeps += 1;
-            }
+            Turn::Goes(t) => candidate = t,
             Turn::ListsGoes(t) => {
                 put_time(list, listed, candidate);
                 candidate = t;
                 listed += 1;
-                sweeps += 1;
             }
-            Turn::Refused(n) => return Arrivals::Refused(n),
         }
     }
 }
@@ -84,22 +81,21 @@ pub fn compute_safe_arrival_times(
     marks: &[u64; 417],
     places: &[f64; 800],
     list: &mut [i64],
-) -> Arrivals
+) -> Result<Arrivals, Refusal>
     ensures { Told (arrivals_at p place (obstacles_in marks.now places.now)) list.old list.new result }
 {
-    let found = search_times(p, place, marks, places, list);
-    match found {
-        Arrivals::Refused(n) => {
-            wipe_times(list, 0);
-            Arrivals::Refused(n)
-        }
-        Arrivals::Listed(count, sweeps) => {
-            if list.len() < count {
+    match search_times(p, place, marks, places, list) {
+        Ok(found) => {
+            if list.len() < found.listed {
                 wipe_times(list, 0);
-                return Arrivals::Refused(refusals::NO_ROOM);
+                return Err(Refusal::NoRoom);
             }
-            wipe_times(list, count);
-            Arrivals::Listed(count, sweeps)
+            wipe_times(list, found.listed);
+            Ok(found)
+        }
+        Err(why) => {
+            wipe_times(list, 0);
+            Err(why)
         }
     }
 }

@@ -5,41 +5,29 @@ ghost use Rattle.arrival_search.specs.Search.{turn};
 ghost use Rattle.arrival_legs.specs.Watched.{view_at, watched_all};
 
 use crate::{soonest, sweep};
-use arrival_search::next::Next;
 use arrival_search::turn::{Swept, Turn};
+use refusals::Refusal;
 use shapes::profile::CircularProfile;
 use shapes::waypoint::Waypoint;
 use times::time::TimePoint;
 
+#[tactic(auto, unfolding(arrival_search::specs::Search::turn))]
 pub fn turn_from(
     p: CircularProfile,
     place: Waypoint,
     marks: &[u64; 417],
     places: &[f64; 800],
     candidate: TimePoint,
-) -> Turn
+) -> Result<Turn, Refusal>
     ensures { result ≡ turn (view_at place) (watched_all p (obstacles_in marks.now places.now)) candidate }
 {
-    let swept = sweep::sweep_from(p, place, marks, places, candidate);
-    match swept {
-        Swept::Lost => Turn::Ends,
-        Swept::Refused(n) => Turn::Refused(n),
-        Swept::Moved(t) => {
-            if candidate.is_before(t) {
-                return Turn::Goes(t);
-            }
-            if t.is_before(candidate) {
-                return Turn::Goes(t);
-            }
-            Turn::Refused(refusals::STUCK)
-        }
-        Swept::Still => {
-            let found = soonest::soonest_of(p, place, marks, places, candidate);
-            match found {
-                Next::Missing => Turn::Lists,
-                Next::At(t) => Turn::ListsGoes(t),
-                Next::Refused(n) => Turn::Refused(n),
-            }
-        }
+    match sweep::sweep_from(p, place, marks, places, candidate)? {
+        Swept::Lost => Ok(Turn::Ends),
+        Swept::Moved(t) if t != candidate => Ok(Turn::Goes(t)),
+        Swept::Moved(_) => Err(Refusal::Stuck),
+        Swept::Still => match soonest::soonest_of(p, place, marks, places, candidate)? {
+            Some(t) => Ok(Turn::ListsGoes(t)),
+            None => Ok(Turn::Lists),
+        },
     }
 }

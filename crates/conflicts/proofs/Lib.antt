@@ -1,3 +1,2 @@
 pub mod Conflicts
 pub mod ShortLegs
-pub mod Else

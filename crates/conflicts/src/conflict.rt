@@ -3,19 +3,19 @@ ghost use Rattle.std.specs.Prelude.{◌≡◌};
 ghost use Rattle.conflicts.specs.Conflict.{is_closing, closing_at, entered_at, proximity_in_boxes, conflict_of};
 
 use motions::quadratic;
-use motions::quadratic::{Meeting, Quadratic};
+use motions::quadratic::Quadratic;
 use proximity::detect;
-use proximity::detect::{Entry, Proximity};
+use proximity::detect::Proximity;
+use refusals::Refusal;
 use shapes::bounding_box::BoundingBox;
 use shapes::waypoint::Leg;
-use times::time::{Span, TimePoint};
+use times::time::TimePoint;
 
-// No conflict, a conflict, or a refusal and its number.
-#[derive(Clone, Copy)]
+// No conflict, or a conflict.
+#[derive(Clone, Copy, Debug, PartialEq, Eq)]
 pub enum Verdict {
     Clear,
     Conflict,
-    Refused(u64),
 }
 
 // Whether the squared distance falls, t seconds after the range's start.
@@ -26,71 +26,63 @@ fn is_closing(q: Quadratic, t: f64) -> bool
 }
 
 // A conflict at the entry t, if the legs still close in on one another then.
-fn closing_at(limit: f64, agent: Leg, obstacle: Leg, t: TimePoint) -> Verdict
+#[tactic(auto, unfolding(crate::specs::Conflict::closing_at))]
+fn closing_at(limit: f64, agent: Leg, obstacle: Leg, t: TimePoint) -> Result<Verdict, Refusal>
     ensures { result ≡ closing_at limit agent obstacle t }
 {
     let t0 = detect::range_start(agent, obstacle);
-    let since = t.since(t0);
-    let Span::Of(d) = since else {
-        return Verdict::Refused(refusals::STRAYED);
-    };
-    let meeting = quadratic::meeting_from(limit, agent, obstacle, t0);
-    match meeting {
-        Meeting::Refused(n) => Verdict::Refused(n),
-        Meeting::Of(q) => {
-            if is_closing(q, d.as_secs_f64()) {
-                return Verdict::Conflict;
-            }
-            Verdict::Clear
-        }
+    let since = t.since(t0)?;
+    let q = quadratic::meeting_from(limit, agent, obstacle, t0)?;
+    if is_closing(q, since.as_secs_f64()) {
+        return Ok(Verdict::Conflict);
     }
+    Ok(Verdict::Clear)
 }
 
 // How near the agent's leg and an obstacle's come, each in its box: never where the boxes do not overlap.
+#[tactic(auto, unfolding(crate::specs::Conflict::proximity_in_boxes))]
 pub fn proximity_in_boxes(
     agent: Leg,
     bounds: BoundingBox,
     obstacle: Leg,
     other: BoundingBox,
     limit: f64,
-) -> Proximity
+) -> Result<Proximity, Refusal>
     ensures { result ≡ proximity_in_boxes agent bounds obstacle other limit }
 {
     if !bounds.overlaps(other) {
-        return Proximity::Never;
+        return Ok(Proximity::Never);
     }
     detect::detect_proximity(limit, agent, obstacle)
 }
 
 // What an entry at t says: it counts only strictly inside both legs.
-pub fn entered_at(limit: f64, agent: Leg, obstacle: Leg, t: TimePoint) -> Verdict
+#[tactic(auto, unfolding(crate::specs::Conflict::entered_at))]
+pub fn entered_at(limit: f64, agent: Leg, obstacle: Leg, t: TimePoint) -> Result<Verdict, Refusal>
     ensures { result ≡ entered_at limit agent obstacle t }
 {
     if !agent.is_inside(t) {
-        return Verdict::Clear;
+        return Ok(Verdict::Clear);
     }
     if !obstacle.is_inside(t) {
-        return Verdict::Clear;
+        return Ok(Verdict::Clear);
     }
     closing_at(limit, agent, obstacle, t)
 }
 
 // Whether the agent's leg and an obstacle's are in conflict, each with its box.
+#[tactic(auto, unfolding(crate::specs::Conflict::conflict_of, crate::specs::Conflict::proximity_in_boxes))]
 pub fn have_conflict(
     agent: Leg,
     bounds: BoundingBox,
     obstacle: Leg,
     other: BoundingBox,
     limit: f64,
-) -> Verdict
+) -> Result<Verdict, Refusal>
     ensures { result ≡ conflict_of agent bounds obstacle other limit }
 {
-    let near = proximity_in_boxes(agent, bounds, obstacle, other, limit);
-    if let Proximity::Refused(n) = near {
-        return Verdict::Refused(n);
+    match proximity_in_boxes(agent, bounds, obstacle, other, limit)? {
+        Proximity::Never => Ok(Verdict::Clear),
+        Proximity::Enters(t) | Proximity::Passes(t, _) => entered_at(limit, agent, obstacle, t),
     }
-    let Entry::At(t) = near.entry() else {
-        return Verdict::Clear;
-    };
-    entered_at(limit, agent, obstacle, t)
 }

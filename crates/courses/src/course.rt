@@ -3,10 +3,10 @@ ghost use Rattle.std.specs.Prelude.{◌≡◌};
 ghost use Rattle.courses.specs.Course.{run_of, course_of};
 
 use crate::norm;
-use root::nearest::Root;
+use refusals::Refusal;
 use shapes::vector::Vector;
 use shapes::waypoint::Leg;
-use times::time::{Span, TimePoint};
+use times::time::{Strayed, TimePoint};
 
 // A leg with its seconds and its velocity.
 #[derive(Clone, Copy)]
@@ -19,13 +19,6 @@ pub struct Run {
     pub velocity: Vector,
 }
 
-// A leg in motion, or refusal 7.
-#[derive(Clone, Copy)]
-pub enum Ran {
-    Of(Run),
-    Strayed,
-}
-
 // The agent's leg, its direction and length, and its speed along it.
 #[derive(Clone, Copy)]
 pub struct Course {
@@ -35,65 +28,42 @@ pub struct Course {
     pub speed: f64,
 }
 
-// A course, none where the agent hardly moves, or a refusal and its number.
-#[derive(Clone, Copy)]
-pub enum Heading {
-    Along(Course),
-    Missing,
-    Refused(u64),
-}
-
-pub fn run_of(leg: Leg) -> Ran
+// A leg in motion.
+#[tactic(auto, unfolding(crate::specs::Course::run_of))]
+pub fn run_of(leg: Leg) -> Result<Run, Strayed>
     ensures { result ≡ run_of leg }
 {
-    let start = leg.start.time;
-    let end = leg.end.time;
-    let lasting = end.since(start);
-    let Span::Of(d) = lasting else {
-        return Ran::Strayed;
-    };
-    let first = leg.start;
-    let from = first.place();
-    let last = leg.end;
-    let to = last.place();
-    let seconds = d.as_secs_f64();
-    let velocity = to.minus(from).over(seconds);
-    Ran::Of(Run {
-        start,
-        end,
+    let Leg { start, end } = leg;
+    let seconds = end.time.since(start.time)?.as_secs_f64();
+    let from = start.place();
+    let to = end.place();
+    Ok(Run {
+        start: start.time,
+        end: end.time,
         from,
         to,
         seconds,
-        velocity,
+        velocity: to.minus(from).over(seconds),
     })
 }
 
-// The course of a leg longer than 1e-8.
-pub fn course_of(leg: Leg) -> Heading
+// The course of a leg; none for one that is not longer than 1e-8.
+#[tactic(auto, unfolding(crate::specs::Course::course_of))]
+pub fn course_of(leg: Leg) -> Result<Option<Course>, Refusal>
     ensures { result ≡ course_of leg }
 {
-    let start = leg.start;
-    let end = leg.end;
-    let way = end.place().minus(start.place());
-    let long = norm::norm(way);
-    let Root::Of(distance) = long else {
-        return Heading::Refused(refusals::NUMBER);
-    };
-    if !(distance > 1e-8) {
-        return Heading::Missing;
+    let way = leg.end.place().minus(leg.start.place());
+    let distance = norm::norm(way)?;
+    if distance > 1e-8 {
+        let run = run_of(leg)?;
+        let speed = norm::norm(run.velocity)?;
+        Ok(Some(Course {
+            run,
+            direction: way.over(distance),
+            distance,
+            speed,
+        }))
+    } else {
+        Ok(None)
     }
-    let ran = run_of(leg);
-    let Ran::Of(run) = ran else {
-        return Heading::Refused(refusals::STRAYED);
-    };
-    let fast = norm::norm(run.velocity);
-    let Root::Of(speed) = fast else {
-        return Heading::Refused(refusals::NUMBER);
-    };
-    Heading::Along(Course {
-        run,
-        direction: way.over(distance),
-        distance,
-        speed,
-    })
 }

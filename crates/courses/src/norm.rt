@@ -3,33 +3,25 @@ ghost use Rattle.std.specs.Prelude.{◌≡◌};
 ghost use Rattle.courses.specs.Norm.{norm_of, direction_of};
 
 use root::nearest;
-use root::nearest::Root;
+use root::nearest::NoRoot;
 use shapes::vector::Vector;
 
-// A direction, none for a vector that is hardly longer than nothing, or refusal 1: the length has no root.
-#[derive(Clone, Copy)]
-pub enum Direction {
-    Along(Vector),
-    Missing,
-    Refused,
-}
-
-pub fn norm(v: Vector) -> Root
+#[tactic(auto, unfolding(crate::specs::Norm::norm_of))]
+pub fn norm(v: Vector) -> Result<f64, NoRoot>
     ensures { result ≡ norm_of v }
 {
     nearest::square_root(v.dot(v))
 }
 
-// The direction of a vector that is longer than 1e-8.
-pub fn try_normalize(v: Vector) -> Direction
+// The direction of a vector; none for one that is not longer than 1e-8.
+#[tactic(auto, unfolding(crate::specs::Norm::direction_of))]
+pub fn try_normalize(v: Vector) -> Result<Option<Vector>, NoRoot>
     ensures { result ≡ direction_of v }
 {
-    let found = norm(v);
-    let Root::Of(n) = found else {
-        return Direction::Refused;
-    };
-    if !(n > 1e-8) {
-        return Direction::Missing;
+    let n = norm(v)?;
+    if n > 1e-8 {
+        Ok(Some(v.over(n)))
+    } else {
+        Ok(None)
     }
-    Direction::Along(v.over(n))
 }

@@ -3,45 +3,42 @@
 use Rattle.std.specs.Prelude.{cond, ◌&&◌, [], ◌∷◌, Float}
 use Rattle.std.specs.Float.{binary64}
 use Rattle.std.specs.Float.Ieee.{to_bits}
-use Rattle.refusals.specs.Names.{NUMBER, BACKWARD}
 use Rattle.lent.specs.Outcome.{Outcome, Gives, Refuses}
 use Rattle.shapes.specs.Box.{box_of_leg, overlap}
 use Rattle.shapes.specs.Leg.{is_backward}
 use Rattle.domain.specs.Domain.{is_profile, is_leg, is_box}
 use Rattle.shapes.specs.declared.bounding_box.BoundingBox.{BoundingBox}
-use Rattle.domain.specs.declared.calls.Distance.{Distance}
-use Rattle.domain.specs.declared.calls.Distance.TheVariants as D
-use Rattle.domain.specs.declared.calls.Boxed.{Boxed}
-use Rattle.domain.specs.declared.calls.Boxed.TheVariants as B
-use Rattle.domain.specs.declared.calls.Overlap.{Overlap}
-use Rattle.domain.specs.declared.calls.Overlap.TheVariants as O
 use Rattle.shapes.specs.declared.profile.CircularProfile.{CircularProfile}
 use Rattle.shapes.specs.declared.waypoint.Leg.{Leg}
+use Rattle.std.specs.Prelude.{Bool, Result, Ok, Err, true, false}
+use Rattle.refusals.specs.declared.Refusal.{Refusal}
+use Rattle.refusals.specs.declared.Refusal.TheVariants as Refusals
+use Rattle.refusals.specs.Names.{refusal_number}
 
 -- A distance of two profiles: 1 for their numbers.
-unfoldable pub asked_distance : CircularProfile → CircularProfile → Float → Distance
-asked_distance p q distance = cond (is_profile p && is_profile q) (D.Of distance) D.Refused
+unfoldable pub asked_distance : CircularProfile → CircularProfile → Float → Result Float Refusal
+asked_distance p q distance = cond (is_profile p && is_profile q) (Ok distance) (Err Refusals.Number)
 
 -- The box of a leg of the agent's: 1 for the numbers, 3 where it runs backward.
-unfoldable pub asked_box : CircularProfile → Leg → Boxed
+unfoldable pub asked_box : CircularProfile → Leg → Result BoundingBox Refusal
 asked_box p leg =
-    cond (is_profile p && is_leg leg) (cond (is_backward leg) (B.Refused BACKWARD) (B.Of (box_of_leg p.footprint leg))) (B.Refused NUMBER)
+    cond (is_profile p && is_leg leg) (cond (is_backward leg) (Err Refusals.Backward) (Ok (box_of_leg p.footprint leg))) (Err Refusals.Number)
 
 -- Whether two boxes overlap: 1 for their bounds.
-unfoldable pub asked_overlap : BoundingBox → BoundingBox → Overlap
-asked_overlap p q = cond (is_box p && is_box q) (cond (overlap p q) O.Together O.Apart) O.Refused
+unfoldable pub asked_overlap : BoundingBox → BoundingBox → Result Bool Refusal
+asked_overlap p q = cond (is_box p && is_box q) (Ok (overlap p q)) (Err Refusals.Number)
 
 -- The number and the words of each case (RULES 4.1).
-abbrev pub distance_outcome : Distance → Outcome
-distance_outcome (D.Of d) = Gives (to_bits binary64 d ∷ [])
-distance_outcome D.Refused = Refuses NUMBER
+abbrev pub distance_outcome : Result Float Refusal → Outcome
+distance_outcome (Ok d) = Gives (to_bits binary64 d ∷ [])
+distance_outcome (Err why) = Refuses (refusal_number why)
 
-abbrev pub box_outcome : Boxed → Outcome
-box_outcome (B.Of b) =
+abbrev pub box_outcome : Result BoundingBox Refusal → Outcome
+box_outcome (Ok b) =
     Gives (to_bits binary64 b.left ∷ (to_bits binary64 b.bottom ∷ (to_bits binary64 b.right ∷ (to_bits binary64 b.top ∷ []))))
-box_outcome (B.Refused n) = Refuses n
+box_outcome (Err why) = Refuses (refusal_number why)
 
-abbrev pub overlap_outcome : Overlap → Outcome
-overlap_outcome O.Apart = Gives (0 ∷ [])
-overlap_outcome O.Together = Gives (1 ∷ [])
-overlap_outcome O.Refused = Refuses NUMBER
+abbrev pub overlap_outcome : Result Bool Refusal → Outcome
+overlap_outcome (Ok false) = Gives (0 ∷ [])
+overlap_outcome (Ok true) = Gives (1 ∷ [])
+overlap_outcome (Err why) = Refuses (refusal_number why)

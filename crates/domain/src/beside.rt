@@ -4,9 +4,10 @@ ghost use Rattle.domain.specs.Domain.{is_time};
 ghost use Rattle.domain.specs.Beside.{is_budget, numbered, with_numbers, with_lent};
 
 use crate::limits;
-use crate::limits::Examined;
+use refusals::Refusal;
 use times::time::TimePoint;
 
+#[tactic(auto, unfolding(crate::specs::Beside::is_budget))]
 pub fn is_budget(budget: u64) -> bool
     ensures { result ≡ is_budget budget }
 {
@@ -14,6 +15,7 @@ pub fn is_budget(budget: u64) -> bool
 }
 
 // A budget and an arrival time of the table.
+#[tactic(auto, unfolding(crate::specs::Beside::is_budget, crate::specs::Domain::is_time))]
 pub fn is_asked(budget: u64, arrival: TimePoint) -> bool
     ensures { result ≡ (is_budget budget && is_time arrival) }
 {
@@ -24,22 +26,19 @@ pub fn is_asked(budget: u64, arrival: TimePoint) -> bool
 }
 
 // A ground for 1: it comes after any for 2, and before 3.
-fn by_number(found: Examined) -> Examined
+fn by_number(found: Result<(), Refusal>) -> Result<(), Refusal>
     ensures { result ≡ numbered found }
 {
     match found {
-        Examined::Fine => Examined::Refused(refusals::NUMBER),
-        Examined::Refused(n) => {
-            if n == refusals::SHAPE {
-                return Examined::Refused(refusals::SHAPE);
-            }
-            Examined::Refused(refusals::NUMBER)
-        }
+        Ok(()) => Err(Refusal::Number),
+        Err(Refusal::Shape) => Err(Refusal::Shape),
+        Err(_) => Err(Refusal::Number),
     }
 }
 
 // What is found where numbers beside those examined must be in the table as well.
-pub fn with_numbers(ok: bool, found: Examined) -> Examined
+#[tactic(auto, unfolding(crate::specs::Beside::with_numbers))]
+pub fn with_numbers(ok: bool, found: Result<(), Refusal>) -> Result<(), Refusal>
     ensures { result ≡ with_numbers ok found }
 {
     if ok {
@@ -49,11 +48,12 @@ pub fn with_numbers(ok: bool, found: Examined) -> Examined
 }
 
 // What is found with hints that are refused by this number.
-pub fn with_lent(number: u64, found: Examined) -> Examined
+#[tactic(auto, unfolding(crate::specs::Beside::with_lent))]
+pub fn with_lent(number: u64, found: Result<(), Refusal>) -> Result<(), Refusal>
     ensures { result ≡ with_lent number found }
 {
-    if number == refusals::SHAPE {
-        return Examined::Refused(refusals::SHAPE);
+    if number == u64::from(Refusal::Shape) {
+        return Err(Refusal::Shape);
     }
     by_number(found)
 }

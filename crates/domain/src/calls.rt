@@ -5,32 +5,12 @@ ghost use Rattle.domain.specs.Domain.{is_profile};
 ghost use Rattle.domain.specs.Asked.{asked_distance, asked_box, asked_overlap};
 
 use crate::limits;
+use refusals::Refusal;
 use shapes::bounding_box::BoundingBox;
 use shapes::profile::CircularProfile;
 use shapes::waypoint::Leg;
 
-// A distance, or refusal 1.
-#[derive(Clone, Copy)]
-pub enum Distance {
-    Of(f64),
-    Refused,
-}
-
-// A box, or a refusal and its number.
-#[derive(Clone, Copy)]
-pub enum Boxed {
-    Of(BoundingBox),
-    Refused(u64),
-}
-
-// Whether two boxes overlap, or refusal 1.
-#[derive(Clone, Copy)]
-pub enum Overlap {
-    Apart,
-    Together,
-    Refused,
-}
-
+#[tactic(auto, unfolding(crate::specs::Domain::is_profile))]
 fn are_profiles(p: CircularProfile, q: CircularProfile) -> bool
     ensures { result ≡ (is_profile p && is_profile q) }
 {
@@ -40,60 +20,63 @@ fn are_profiles(p: CircularProfile, q: CircularProfile) -> bool
     limits::is_profile(q)
 }
 
-pub fn critical_distance(p: CircularProfile, q: CircularProfile) -> Distance
+#[tactic(auto, unfolding(crate::specs::Asked::asked_distance, shapes::specs::Distance::critical_distance))]
+pub fn critical_distance(p: CircularProfile, q: CircularProfile) -> Result<f64, Refusal>
     ensures { result ≡ asked_distance p q (critical_distance p q) }
 {
     if !are_profiles(p, q) {
-        return Distance::Refused;
+        return Err(Refusal::Number);
     }
-    Distance::Of(p.critical_distance_for(q))
+    Ok(p.critical_distance_for(q))
 }
 
-pub fn critical_distance_squared(p: CircularProfile, q: CircularProfile) -> Distance
+#[tactic(auto, unfolding(crate::specs::Asked::asked_distance, shapes::specs::Distance::critical_distance_squared))]
+pub fn critical_distance_squared(p: CircularProfile, q: CircularProfile) -> Result<f64, Refusal>
     ensures { result ≡ asked_distance p q (critical_distance_squared p q) }
 {
     if !are_profiles(p, q) {
-        return Distance::Refused;
+        return Err(Refusal::Number);
     }
-    Distance::Of(p.critical_distance_squared_for(q))
+    Ok(p.critical_distance_squared_for(q))
 }
 
-pub fn follow_distance(p: CircularProfile, q: CircularProfile) -> Distance
+#[tactic(auto, unfolding(crate::specs::Asked::asked_distance, shapes::specs::Distance::follow_distance))]
+pub fn follow_distance(p: CircularProfile, q: CircularProfile) -> Result<f64, Refusal>
     ensures { result ≡ asked_distance p q (follow_distance p q) }
 {
     if !are_profiles(p, q) {
-        return Distance::Refused;
+        return Err(Refusal::Number);
     }
-    Distance::Of(p.follow_distance_for(q))
+    Ok(p.follow_distance_for(q))
 }
 
 // The box of a leg of the agent's.
-pub fn box_of_leg(p: CircularProfile, leg: Leg) -> Boxed
+#[tactic(auto, unfolding(crate::specs::Asked::asked_box))]
+pub fn box_of_leg(p: CircularProfile, leg: Leg) -> Result<BoundingBox, Refusal>
     ensures { result ≡ asked_box p leg }
 {
     if !limits::is_profile(p) {
-        return Boxed::Refused(refusals::NUMBER);
+        return Err(Refusal::Number);
     }
     if !limits::is_leg(leg) {
-        return Boxed::Refused(refusals::NUMBER);
+        return Err(Refusal::Number);
     }
     if leg.is_backward() {
-        return Boxed::Refused(refusals::BACKWARD);
+        return Err(Refusal::Backward);
     }
-    Boxed::Of(BoundingBox::for_line(p.footprint, leg))
+    Ok(BoundingBox::for_line(p.footprint, leg))
 }
 
-pub fn boxes_overlap(p: BoundingBox, q: BoundingBox) -> Overlap
+// Whether two boxes have a point in common.
+#[tactic(auto, unfolding(crate::specs::Asked::asked_overlap))]
+pub fn boxes_overlap(p: BoundingBox, q: BoundingBox) -> Result<bool, Refusal>
     ensures { result ≡ asked_overlap p q }
 {
     if !limits::is_box(p) {
-        return Overlap::Refused;
+        return Err(Refusal::Number);
     }
     if !limits::is_box(q) {
-        return Overlap::Refused;
+        return Err(Refusal::Number);
     }
-    if p.overlaps(q) {
-        return Overlap::Together;
-    }
-    Overlap::Apart
+    Ok(p.overlaps(q))
 }

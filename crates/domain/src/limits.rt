@@ -10,13 +10,7 @@ use shapes::vector::Vector;
 use shapes::waypoint::{Leg, Waypoint};
 use times::time::TimePoint;
 
-// What examining a call's input finds: nothing wrong, or a refusal and its number.
-#[derive(Clone, Copy)]
-pub enum Examined {
-    Fine,
-    Refused(u64),
-}
-
+#[tactic(auto, unfolding(crate::specs::Domain::is_time))]
 pub fn is_time(t: TimePoint) -> bool
     ensures { result ≡ is_time t }
 {
@@ -60,6 +54,7 @@ pub fn is_speed(x: f64) -> bool
     comparison::is_between(-1e14, 1e14, x)
 }
 
+#[tactic(auto, unfolding(crate::specs::Domain::is_place))]
 pub fn is_place(p: Vector) -> bool
     ensures { result ≡ is_place p }
 {
@@ -69,6 +64,7 @@ pub fn is_place(p: Vector) -> bool
     is_coordinate(p.y)
 }
 
+#[tactic(auto, unfolding(crate::specs::Domain::is_waypoint))]
 pub fn is_waypoint(w: Waypoint) -> bool
     ensures { result ≡ is_waypoint w }
 {
@@ -81,6 +77,7 @@ pub fn is_waypoint(w: Waypoint) -> bool
     is_coordinate(w.y)
 }
 
+#[tactic(auto, unfolding(crate::specs::Domain::is_leg))]
 pub fn is_leg(leg: Leg) -> bool
     ensures { result ≡ is_leg leg }
 {
@@ -90,6 +87,7 @@ pub fn is_leg(leg: Leg) -> bool
     is_waypoint(leg.end)
 }
 
+#[tactic(auto, unfolding(crate::specs::Domain::is_profile))]
 pub fn is_profile(p: CircularProfile) -> bool
     ensures { result ≡ is_profile p }
 {
@@ -99,6 +97,7 @@ pub fn is_profile(p: CircularProfile) -> bool
     is_radius(p.follow)
 }
 
+#[tactic(auto, unfolding(crate::specs::Domain::is_box))]
 pub fn is_box(b: BoundingBox) -> bool
     ensures { result ≡ is_box b }
 {

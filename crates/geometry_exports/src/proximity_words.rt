@@ -7,23 +7,18 @@ ghost use Rattle.line_proximity.specs.Stationary.{stay_outcome};
 
 use conflicts::conflict::Verdict;
 use lent::words;
-use line_proximity::stationary::Stay;
+use motions::motion::State;
 use number_words::word;
-use proximity::calls::Whereabouts;
 use proximity::detect::Proximity;
+use refusals::Refusal;
 
-pub fn give_position(p: Whereabouts, out: &mut [u64]) -> u64
+pub fn give_position(p: Result<Option<State>, Refusal>, out: &mut [u64]) -> u64
     ensures { Handed (position_outcome p) out.old out.new result }
 {
     match p {
-        Whereabouts::Refused(n) => words::refuse(out, n),
-        Whereabouts::Outside => {
-            let none = [0u64];
-            words::hand_over(out, &none)
-        }
-        Whereabouts::At(s) => {
+        Ok(Some(s)) => {
             let w = [
-                1u64,
+                1,
                 word::of_double(s.place.x),
                 word::of_double(s.place.y),
                 word::of_double(s.velocity.x),
@@ -31,57 +26,40 @@ pub fn give_position(p: Whereabouts, out: &mut [u64]) -> u64
             ];
             words::hand_over(out, &w)
         }
+        Ok(None) => words::hand_over(out, &[0]),
+        Err(why) => words::refuse(out, u64::from(why)),
     }
 }
 
-pub fn give_proximity(p: Proximity, out: &mut [u64]) -> u64
+pub fn give_proximity(p: Result<Proximity, Refusal>, out: &mut [u64]) -> u64
     ensures { Handed (proximity_outcome p) out.old out.new result }
 {
     match p {
-        Proximity::Refused(n) => words::refuse(out, n),
-        Proximity::Never => {
-            let none = [0u64];
-            words::hand_over(out, &none)
+        Ok(Proximity::Never) => words::hand_over(out, &[0]),
+        Ok(Proximity::Enters(t)) => words::hand_over(out, &[1, word::of_signed(t.0)]),
+        Ok(Proximity::Passes(t, u)) => {
+            words::hand_over(out, &[2, word::of_signed(t.0), word::of_signed(u.0)])
         }
-        Proximity::Enters(t) => {
-            let one = [1u64, word::of_signed(t.0)];
-            words::hand_over(out, &one)
-        }
-        Proximity::Passes(t, u) => {
-            let both = [2u64, word::of_signed(t.0), word::of_signed(u.0)];
-            words::hand_over(out, &both)
-        }
+        Err(why) => words::refuse(out, u64::from(why)),
     }
 }
 
-pub fn give_verdict(v: Verdict, out: &mut [u64]) -> u64
+pub fn give_verdict(v: Result<Verdict, Refusal>, out: &mut [u64]) -> u64
     ensures { Handed (verdict_outcome v) out.old out.new result }
 {
     match v {
-        Verdict::Refused(n) => words::refuse(out, n),
-        Verdict::Clear => {
-            let w = [0u64];
-            words::hand_over(out, &w)
-        }
-        Verdict::Conflict => {
-            let w = [1u64];
-            words::hand_over(out, &w)
-        }
+        Ok(Verdict::Clear) => words::hand_over(out, &[0]),
+        Ok(Verdict::Conflict) => words::hand_over(out, &[1]),
+        Err(why) => words::refuse(out, u64::from(why)),
     }
 }
 
-pub fn give_stay(s: Stay, out: &mut [u64]) -> u64
+pub fn give_stay(s: Result<Option<(f64, f64)>, Refusal>, out: &mut [u64]) -> u64
     ensures { Handed (stay_outcome s) out.old out.new result }
 {
     match s {
-        Stay::Refused => words::refuse(out, refusals::NUMBER),
-        Stay::Nothing => {
-            let none = [0u64];
-            words::hand_over(out, &none)
-        }
-        Stay::Between(t, u) => {
-            let both = [2u64, word::of_double(t), word::of_double(u)];
-            words::hand_over(out, &both)
-        }
+        Ok(Some((t, u))) => words::hand_over(out, &[2, word::of_double(t), word::of_double(u)]),
+        Ok(None) => words::hand_over(out, &[0]),
+        Err(why) => words::refuse(out, u64::from(why)),
     }
 }

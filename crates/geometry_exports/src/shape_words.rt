@@ -3,27 +3,25 @@ ghost use Rattle.lent.specs.Outcome.{Handed};
 ghost use Rattle.domain.specs.Asked.{distance_outcome, box_outcome, overlap_outcome};
 ghost use Rattle.table_checks.specs.Asked.{hull_outcome};
 
-use domain::calls::{Boxed, Distance, Overlap};
 use lent::words;
 use number_words::word;
-use table_checks::calls::Hull;
+use refusals::Refusal;
+use shapes::bounding_box::BoundingBox;
 
-pub fn give_distance(d: Distance, out: &mut [u64]) -> u64
+pub fn give_distance(d: Result<f64, Refusal>, out: &mut [u64]) -> u64
     ensures { Handed (distance_outcome d) out.old out.new result }
 {
-    let Distance::Of(x) = d else {
-        return words::refuse(out, refusals::NUMBER);
-    };
-    let w = [word::of_double(x)];
-    words::hand_over(out, &w)
+    match d {
+        Ok(x) => words::hand_over(out, &[word::of_double(x)]),
+        Err(why) => words::refuse(out, u64::from(why)),
+    }
 }
 
-pub fn give_box(b: Boxed, out: &mut [u64]) -> u64
+pub fn give_box(b: Result<BoundingBox, Refusal>, out: &mut [u64]) -> u64
     ensures { Handed (box_outcome b) out.old out.new result }
 {
     match b {
-        Boxed::Refused(n) => words::refuse(out, n),
-        Boxed::Of(at) => {
+        Ok(at) => {
             let w = [
                 word::of_double(at.left),
                 word::of_double(at.bottom),
@@ -32,21 +30,17 @@ pub fn give_box(b: Boxed, out: &mut [u64]) -> u64
             ];
             words::hand_over(out, &w)
         }
+        Err(why) => words::refuse(out, u64::from(why)),
     }
 }
 
-pub fn give_hull(h: Hull, out: &mut [u64]) -> u64
+pub fn give_hull(h: Result<Option<BoundingBox>, Refusal>, out: &mut [u64]) -> u64
     ensures { Handed (hull_outcome h) out.old out.new result }
 {
     match h {
-        Hull::Refused(n) => words::refuse(out, n),
-        Hull::Missing => {
-            let none = [0u64];
-            words::hand_over(out, &none)
-        }
-        Hull::Of(at) => {
+        Ok(Some(at)) => {
             let w = [
-                1u64,
+                1,
                 word::of_double(at.left),
                 word::of_double(at.bottom),
                 word::of_double(at.right),
@@ -54,21 +48,16 @@ pub fn give_hull(h: Hull, out: &mut [u64]) -> u64
             ];
             words::hand_over(out, &w)
         }
+        Ok(None) => words::hand_over(out, &[0]),
+        Err(why) => words::refuse(out, u64::from(why)),
     }
 }
 
-pub fn give_overlap(o: Overlap, out: &mut [u64]) -> u64
+pub fn give_overlap(o: Result<bool, Refusal>, out: &mut [u64]) -> u64
     ensures { Handed (overlap_outcome o) out.old out.new result }
 {
     match o {
-        Overlap::Refused => words::refuse(out, refusals::NUMBER),
-        Overlap::Apart => {
-            let w = [0u64];
-            words::hand_over(out, &w)
-        }
-        Overlap::Together => {
-            let w = [1u64];
-            words::hand_over(out, &w)
-        }
+        Ok(together) => words::hand_over(out, &[u64::from(together)]),
+        Err(why) => words::refuse(out, u64::from(why)),
     }
 }

@@ -1,36 +1,34 @@
 -- How a chase begins: where the leg is first seen, and where the first round sets out from (RULES 10.16 to 10.21).
 -- Assumes nothing.
-use Rattle.std.specs.Prelude.{cond, Float}
+use Rattle.std.specs.Prelude.{cond, Float, Result, Ok, Err}
 use Rattle.std.specs.Int.Signed.{lt_z}
 use Rattle.std.specs.Float.Ieee
 use Rattle.std.specs.Float.{binary64}
 use Rattle.floats.specs.Constants.{nought}
-use Rattle.times.specs.Time.{span_between, seconds_of}
-use Rattle.times.specs.declared.time.Span.{Span}
-use Rattle.times.specs.declared.time.Span.TheVariants as S
+use Rattle.times.specs.Time.{span_between, seconds_of, strayed}
 use Rattle.shapes.specs.Vector.{vector_sum, vector_difference, scaled}
 use Rattle.shapes.specs.declared.vector.Vector.{Vector}
 use Rattle.courses.specs.declared.course.Course.{Course}
 use Rattle.courses.specs.declared.course.Run.{Run}
 use Rattle.hint_chasing.specs.declared.chase.Gaps.{Gaps}
 use Rattle.hint_chasing.specs.declared.chase.Chase.{Chase}
-use Rattle.hint_chasing.specs.declared.chase.Sight.{Sight}
-use Rattle.hint_chasing.specs.declared.chase.Sight.TheVariants as G
 use Rattle.hint_chasing.specs.declared.chase.Opening.{Opening}
 use Rattle.hint_chasing.specs.declared.chase.Opening.TheVariants.{Waits, Goes}
+use Rattle.times.specs.declared.time.Strayed.{Strayed}
+use Rattle.times.specs.declared.time.Duration.{Duration}
 
 -- At the agent's start, where the leg has begun before; else at the leg's own (RULES 10.16).
-unfoldable pub first_seen : Course → Run → Sight
+unfoldable pub first_seen : Course → Run → Result (Vector × Float) Strayed
 first_seen agent leg =
     cond (lt_z leg.start.0 agent.run.start.0)
     (by (span_between leg.start agent.run.start))
-    (G.At (vector_difference leg.from agent.run.from) (seconds_of leg.start.0))
+    (Ok (vector_difference leg.from agent.run.from, seconds_of leg.start.0))
   where
-    by : Span → Sight
-    by (S.Of d) =
+    by : Result Duration Strayed → Result (Vector × Float) Strayed
+    by (Ok d) =
         let moved = vector_sum leg.from (scaled leg.velocity (seconds_of d.0)) in
-        G.At (vector_difference moved agent.run.from) (seconds_of agent.run.start.0)
-    by S.Strayed = G.Strayed
+        Ok (vector_difference moved agent.run.from, seconds_of agent.run.start.0)
+    by (Err _) = strayed
 
 -- The numbers that stay the same from round to round (RULES 10.18, 10.22).
 unfoldable pub chase_of : Course → Run → Gaps → Float → Float → Chase

@@ -4,7 +4,7 @@ ghost use Rattle.hint_chasing.specs.Chase.{first_seen, chase_of, opening_of};
 
 use courses::course::{Course, Run};
 use shapes::vector::Vector;
-use times::time::Span;
+use times::time::Strayed;
 
 // The distances that the agent keeps from an obstacle: the critical one, its square, and the one that it follows at.
 #[derive(Clone, Copy)]
@@ -12,13 +12,6 @@ pub struct Gaps {
     pub critical: f64,
     pub squared: f64,
     pub follow: f64,
-}
-
-// Where the leg is first seen from the agent's start, and when, in seconds; or refusal 7.
-#[derive(Clone, Copy)]
-pub enum Sight {
-    At(Vector, f64),
-    Strayed,
 }
 
 // What does not change from round to round. `ahead` is how far ahead of the agent's start the leg was seen, `since` when it
@@ -40,22 +33,22 @@ pub enum Opening {
     Goes(f64, f64),
 }
 
-pub fn first_seen(agent: Course, leg: Run) -> Sight
+// Where the leg is first seen from the agent's start, and when, in seconds.
+#[tactic(auto, unfolding(crate::specs::Chase::first_seen))]
+pub fn first_seen(agent: Course, leg: Run) -> Result<(Vector, f64), Strayed>
     ensures { result ≡ first_seen agent leg }
 {
     let run = agent.run;
-    if !leg.start.is_before(run.start) {
-        let apart = leg.from.minus(run.from);
-        return Sight::At(apart, leg.start.as_secs_f64());
+    if leg.start.is_before(run.start) {
+        let gone = run.start.since(leg.start)?.as_secs_f64();
+        let moved = leg.from.plus(leg.velocity.times(gone));
+        Ok((moved.minus(run.from), run.start.as_secs_f64()))
+    } else {
+        Ok((leg.from.minus(run.from), leg.start.as_secs_f64()))
     }
-    let before = run.start.since(leg.start);
-    let Span::Of(d) = before else {
-        return Sight::Strayed;
-    };
-    let moved = leg.from.plus(leg.velocity.times(d.as_secs_f64()));
-    Sight::At(moved.minus(run.from), run.start.as_secs_f64())
 }
 
+#[tactic(auto, unfolding(crate::specs::Chase::chase_of))]
 pub fn chase_of(agent: Course, leg: Run, gaps: Gaps, aligned: f64, ahead: f64) -> Chase
     ensures { result ≡ chase_of agent leg gaps aligned ahead }
 {
@@ -70,6 +63,7 @@ pub fn chase_of(agent: Course, leg: Run, gaps: Gaps, aligned: f64, ahead: f64) -
 }
 
 // The leg is `ahead` metres ahead at t seconds, and the agent follows at the distance `follow`.
+#[tactic(auto, unfolding(crate::specs::Chase::opening_of))]
 pub fn set_out(agent: Course, follow: f64, aligned: f64, ahead: f64, t: f64) -> Opening
     ensures { result ≡ opening_of agent follow aligned ahead t }
 {

@@ -17,7 +17,7 @@ use Rattle.courses.specs.Course.{run_of, course_of}
 use Rattle.courses.specs.Norm.{norm_of, direction_of}
 use Rattle.line_proximity.specs.NearLine.{across_quadratic, outlasting, past_end, spell_of, near_line}
 use Rattle.line_proximity.specs.Stationary.{stationary_proximity}
-use Rattle.hint_list.specs.Hint.{is_placed}
+use Rattle.hint_list.specs.Hint.{is_within_million, is_placed}
 use Rattle.hint_list.specs.Hints.{one_hint, one_wait, found_then}
 use Rattle.hint_waits.specs.Crossing.{before_crossing, beside_line, crossing_wait}
 use Rattle.hint_waits.specs.Parts.{agent_after}
@@ -43,12 +43,13 @@ unfolding asked_hints agent_examined table_examined is_shaped is_laid tiles list
     is_rising is_brief obstacles_of waypoints_listed box_of_trajectory widened legs_of critical_distance_squared critical_distance
     follow_distance larger_of smaller_of box_of_point incorporating inflated box_of_leg overlap place_of vector_sum vector_difference
     scaled divided dot_of run_of course_of across_quadratic outlasting past_end spell_of near_line norm_of direction_of
-    stationary_proximity one_hint one_wait found_then is_placed crossing_wait beside_line before_crossing agent_after standing_wait
-    first_begin near_ends oncoming_wait first_seen chase_of opening_of stride_of round_of rounds_in stop_hint opened is_followed
-    follow_hints hints_of near_obstacles near_obstacle near_legs near_leg other_of gaps_of leg_hints part_hints part_of ranked_hints
-    measured_by graded_onto grade_of contour_of scale_of goes_before inserted root_of least_units root_pattern whole_root earlier_of
-    span_between span_sum is_exact seconds_of instant_of_seconds instant_after_seconds span_of_seconds instant_after Ieee.of_bits
-    Ieee.of_int Ieee.add Ieee.sub Ieee.mul Ieee.div Ieee.neg Ieee.le Ieee.lt Ieee.to_signed
+    stationary_proximity one_hint one_wait found_then is_within_million is_placed crossing_wait beside_line before_crossing
+    agent_after standing_wait first_begin near_ends oncoming_wait first_seen chase_of opening_of stride_of round_of rounds_in
+    stop_hint opened is_followed follow_hints hints_of near_obstacles near_obstacle near_legs near_leg other_of gaps_of leg_hints
+    part_hints part_of ranked_hints measured_by graded_onto grade_of contour_of scale_of goes_before inserted root_of least_units
+    root_pattern whole_root earlier_of span_between span_sum is_exact seconds_of instant_of_seconds instant_after_seconds
+    span_of_seconds instant_after Ieee.of_bits Ieee.of_int Ieee.add Ieee.sub Ieee.mul Ieee.div Ieee.neg Ieee.le Ieee.lt
+    Ieee.to_signed
 worked =
     record {
       following =

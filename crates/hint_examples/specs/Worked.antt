@@ -2,6 +2,7 @@
 -- hold: `worked` of proofs/Worked. The Rust gives the same for each (`oracle/planner/tests/worked.rs`).
 -- Assumes nothing.
 use Rattle.std.specs.Prelude.{◌≡◌, [], ◌∷◌}
+use Rattle.refusals.specs.declared.Refusal.TheVariants as Refusals
 use Rattle.floats.specs.Constants.{nought}
 use Rattle.hint_list.specs.Hints.{Of, Refused}
 use Rattle.hint_ranking.specs.Hints as R
@@ -64,7 +65,7 @@ pub record Chases : Type 0 where
       Of (hint (metres 6) 10_000 ∷ (hint (metres 8) 16_000 ∷ []))
   -- A chase of more hints than are kept: round n ends at s = 4 n + 2, t = 8 n + 2. After 64 of them the agent is at 258 m of 1,000 at
   -- 514 s of 1,000, and the 65th is refused 10 (10.43).
-  pub too_many : walked small (agent 1_000 0) (on (metres 4) nought 0) (on (metres 504) nought 1_000) ≡ Refused 10
+  pub too_many : walked small (agent 1_000 0) (on (metres 4) nought 0) (on (metres 504) nought 1_000) ≡ Refused Refusals.Full
 
 -- Standing (RULES 10.24 to 10.27).
 pub record Standing : Type 0 where

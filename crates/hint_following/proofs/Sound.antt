@@ -4,8 +4,6 @@ use Prim.Native.Nat.{ℕ, zero, suc, ◌-◌, ◌≤◌}
 use mathlib.Core.Path.{◌≡◌, refl}
 use lib.Ieee.{Float}
 use Rattle.times.specs.Time.{instant_of_seconds}
-use Rattle.times.specs.declared.time.Instant.{Instant}
-use Rattle.times.specs.declared.time.Instant.TheVariants as I
 use Rattle.shapes.specs.Vector.{dot_of}
 use Rattle.shapes.specs.declared.vector.Vector.{Vector}
 use Rattle.courses.specs.declared.course.Course.{Course}
@@ -17,20 +15,21 @@ use Rattle.hint_sawtooth.specs.Rounds.{round_of, after_round, rounds_in}
 use Rattle.hint_following.specs.Follow.{stop_hint, opened, is_followed, follow_hints}
 use Rattle.hint_chasing.specs.declared.chase.Gaps.{Gaps}
 use Rattle.hint_chasing.specs.declared.chase.Chase.{Chase}
-use Rattle.hint_chasing.specs.declared.chase.Sight.{Sight}
-use Rattle.hint_chasing.specs.declared.chase.Sight.TheVariants as G
 use Rattle.hint_chasing.specs.declared.chase.Opening.{Opening}
 use Rattle.hint_chasing.specs.declared.chase.Opening.TheVariants.{Waits, Goes}
 use Rattle.hint_sawtooth.specs.declared.rounds.Round.{Round}
-use Rattle.hint_sawtooth.specs.declared.rounds.Round.TheVariants.{Next, Last, Strayed}
+use Rattle.hint_sawtooth.specs.declared.rounds.Round.TheVariants.{Next, Last}
+use Rattle.std.specs.Prelude.{Result, Ok, Err}
+use Rattle.times.specs.declared.time.Strayed.{Strayed}
+use Rattle.times.specs.declared.time.TimePoint.{TimePoint}
 
 -- ---- The rounds.
 
-round_sound : (n : ℕ) (round : Round) (go : ℕ → Float → Float → Hints) →
+round_sound : (n : ℕ) (round : Result Round Strayed) (go : ℕ → Float → Float → Hints) →
     ((m : ℕ) (s t : Float) → m ≤ 64 → Sound m (go m s t)) → Sound n (after_round n round go)
-round_sound n (Next h s t) go next = then_sound n (one_hint n h) (λ m. go m s t) (hint_sound n h) (λ m. next m s t)
-round_sound n (Last h) go next = hint_sound n h
-round_sound n Strayed go next = may_be_strayed
+round_sound n (Ok (Next h s t)) go next = then_sound n (one_hint n h) (λ m. go m s t) (hint_sound n h) (λ m. next m s t)
+round_sound n (Ok (Last h)) go next = hint_sound n h
+round_sound n (Err _) go next = may_be_strayed
 
 module _ (agent : Course) (leg : Run) (obstacle : ℕ) where
   rounds_sound : (room : ℕ) (chase : Chase) (n : ℕ) (s t : Float) → Sound n (rounds_in room agent leg chase obstacle n s t)
@@ -46,9 +45,9 @@ module _ (agent : Course) (leg : Run) (obstacle : ℕ) where
   unfolding stop_hint
   stop_sound n p t = by (instant_of_seconds t) refl
     where
-      by : (i : Instant) → instant_of_seconds t ≡ i → Sound n (stop_hint n p t obstacle)
-      by (I.At tp) e = rw e (hint_sound n (record { place = p; until = tp; obstacle = obstacle }))
-      by I.Strayed e = rw e may_be_strayed
+      by : (i : Result TimePoint Strayed) → instant_of_seconds t ≡ i → Sound n (stop_hint n p t obstacle)
+      by (Ok tp) e = rw e (hint_sound n (record { place = p; until = tp; obstacle = obstacle }))
+      by (Err _) e = rw e may_be_strayed
 
   opened_sound : (chase : Chase) (o : Opening) (n : ℕ) → Sound n (opened agent leg chase obstacle o n)
   unfolding opened
@@ -61,10 +60,10 @@ module _ (agent : Course) (leg : Run) (obstacle : ℕ) where
   unfolding follow_hints
   follow_sound gaps aligned n few = by (first_seen agent leg) refl
     where
-      by : (s : Sight) → first_seen agent leg ≡ s → Sound n (follow_hints agent leg gaps aligned obstacle n)
-      by (G.At apart t) e =
+      by : (s : Result (Vector × Float) Strayed) → first_seen agent leg ≡ s → Sound n (follow_hints agent leg gaps aligned obstacle n)
+      by (Ok (apart, t)) e =
           let ahead = dot_of apart agent.direction in
           let chase = chase_of agent leg gaps aligned ahead in
           let begun = opened_sound chase (opening_of agent gaps.follow aligned ahead t) n in
           rw e (either_sound n (is_followed agent gaps apart) _ _ begun (none_sound n few))
-      by G.Strayed e = rw e may_be_strayed
+      by (Err _) e = rw e may_be_strayed

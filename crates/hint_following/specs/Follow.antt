@@ -1,12 +1,10 @@
 -- Following as a whole (RULES 10.16 to 10.23).
 -- Assumes nothing.
-use Rattle.std.specs.Prelude.{ℕ, Bool, cond, ◌&&◌, [], Float}
+use Rattle.std.specs.Prelude.{ℕ, Bool, cond, ◌&&◌, [], Float, Result, Ok, Err}
 use Rattle.std.specs.Float.Ieee
-use Rattle.refusals.specs.Names.{STRAYED}
+use Rattle.refusals.specs.declared.Refusal.TheVariants as Refusals
 use Rattle.floats.specs.Constants.{nought}
 use Rattle.times.specs.Time.{instant_of_seconds}
-use Rattle.times.specs.declared.time.Instant.{Instant}
-use Rattle.times.specs.declared.time.Instant.TheVariants as I
 use Rattle.shapes.specs.Vector.{dot_of}
 use Rattle.shapes.specs.declared.vector.Vector.{Vector}
 use Rattle.courses.specs.declared.course.Course.{Course}
@@ -16,18 +14,18 @@ use Rattle.hint_chasing.specs.Chase.{first_seen, chase_of, opening_of}
 use Rattle.hint_sawtooth.specs.Rounds.{rounds_from}
 use Rattle.hint_chasing.specs.declared.chase.Gaps.{Gaps}
 use Rattle.hint_chasing.specs.declared.chase.Chase.{Chase}
-use Rattle.hint_chasing.specs.declared.chase.Sight.{Sight}
-use Rattle.hint_chasing.specs.declared.chase.Sight.TheVariants as G
 use Rattle.hint_chasing.specs.declared.chase.Opening.{Opening}
 use Rattle.hint_chasing.specs.declared.chase.Opening.TheVariants.{Waits, Goes}
+use Rattle.times.specs.declared.time.Strayed.{Strayed}
+use Rattle.times.specs.declared.time.TimePoint.{TimePoint}
 
 -- A hint at a place until the instant t, in seconds, behind n others (RULES 10.19, 10.20).
 unfoldable pub stop_hint : ℕ → Vector → Float → ℕ → Hints
 stop_hint n p t obstacle = by (instant_of_seconds t)
   where
-    by : Instant → Hints
-    by (I.At tp) = one_hint n (record { place = p; until = tp; obstacle = obstacle })
-    by I.Strayed = Refused STRAYED
+    by : Result TimePoint Strayed → Hints
+    by (Ok tp) = one_hint n (record { place = p; until = tp; obstacle = obstacle })
+    by (Err _) = Refused Refusals.Strayed
 
 -- The first wait, if there is one, then the rounds (RULES 10.19 to 10.22).
 unfoldable pub opened : Course → Run → Chase → ℕ → Opening → ℕ → Hints
@@ -47,6 +45,6 @@ follow_hints agent leg gaps aligned obstacle n = by (first_seen agent leg)
     followed ahead t =
         opened agent leg (chase_of agent leg gaps aligned ahead) obstacle (opening_of agent gaps.follow aligned ahead t) n
 
-    by : Sight → Hints
-    by (G.At apart t) = cond (is_followed agent gaps apart) (followed (dot_of apart agent.direction) t) (Of [])
-    by G.Strayed = Refused STRAYED
+    by : Result (Vector × Float) Strayed → Hints
+    by (Ok (apart, t)) = cond (is_followed agent gaps apart) (followed (dot_of apart agent.direction) t) (Of [])
+    by (Err _) = Refused Refusals.Strayed

@@ -5,21 +5,27 @@ ghost use Rattle.hint_following.specs.Follow.{stop_hint, opened, is_followed, fo
 
 use courses::course::{Course, Run};
 use hint_chasing::chase;
-use hint_chasing::chase::{Chase, Gaps, Opening, Sight};
+use hint_chasing::chase::{Chase, Gaps, Opening};
 use hint_list::entries;
-use hint_list::entries::Filled;
 use hint_list::hint::WaitHint;
 use hint_sawtooth::rounds;
+use refusals::Refusal;
 use shapes::vector::Vector;
-use times::time::{Instant, TimePoint};
+use times::time::TimePoint;
 
 // A wait at a place until t seconds, behind n hints.
-fn with_stop(place: Vector, t: f64, obstacle: usize, hints: &mut [u64; 385], n: usize) -> Filled
+#[tactic(auto, unfolding(crate::specs::Follow::stop_hint))]
+fn with_stop(
+    place: Vector,
+    t: f64,
+    obstacle: usize,
+    hints: &mut [u64; 385],
+    n: usize,
+) -> Result<usize, Refusal>
     ensures { Added (stop_hint n place t obstacle) n hints.old hints.new result }
 {
-    let tp = TimePoint::from_secs_f64(t);
-    let Instant::At(until) = tp else {
-        return entries::refuse(hints, refusals::STRAYED, n);
+    let Ok(until) = TimePoint::from_secs_f64(t) else {
+        return entries::refuse(hints, Refusal::Strayed, n);
     };
     let hint = WaitHint {
         place,
@@ -30,6 +36,7 @@ fn with_stop(place: Vector, t: f64, obstacle: usize, hints: &mut [u64; 385], n: 
 }
 
 // The first wait, if there is one, and the rounds.
+#[tactic(auto, unfolding(crate::specs::Follow::opened))]
 fn open(
     agent: Course,
     leg: Run,
@@ -38,32 +45,28 @@ fn open(
     first: Opening,
     hints: &mut [u64; 385],
     n: usize,
-) -> Filled
+) -> Result<usize, Refusal>
     ensures { Added (opened agent leg chase obstacle first n) n hints.old hints.new result }
 {
     match first {
         Opening::Goes(s, t) => rounds::rounds(agent, leg, chase, obstacle, s, t, hints, n),
         Opening::Waits(place, s, t) => {
-            let filled = with_stop(place, t, obstacle, hints, n);
-            let Filled::Of(m) = filled else {
-                return filled;
-            };
+            let m = with_stop(place, t, obstacle, hints, n)?;
             rounds::rounds(agent, leg, chase, obstacle, s, t, hints, m)
         }
     }
 }
 
 // Whether a leg that is first seen `apart` from the agent's start is followed: not within the critical distance, and not behind.
+#[tactic(auto, unfolding(crate::specs::Follow::is_followed))]
 fn is_followed(agent: Course, gaps: Gaps, apart: Vector) -> bool
     ensures { result ≡ is_followed agent gaps apart }
 {
-    if !(apart.dot(apart) >= gaps.squared) {
-        return false;
-    }
-    apart.dot(agent.direction) >= 0.0
+    apart.dot(apart) >= gaps.squared && apart.dot(agent.direction) >= 0.0
 }
 
 // The hints for a leg that goes along the agent's line at the speed `aligned`, behind n others.
+#[tactic(auto, unfolding(crate::specs::Follow::follow_hints))]
 pub fn follow(
     agent: Course,
     leg: Run,
@@ -72,15 +75,14 @@ pub fn follow(
     obstacle: usize,
     hints: &mut [u64; 385],
     n: usize,
-) -> Filled
+) -> Result<usize, Refusal>
     ensures { Added (follow_hints agent leg gaps aligned obstacle n) n hints.old hints.new result }
 {
-    let sight = chase::first_seen(agent, leg);
-    let Sight::At(apart, t) = sight else {
-        return entries::refuse(hints, refusals::STRAYED, n);
+    let Ok((apart, t)) = chase::first_seen(agent, leg) else {
+        return entries::refuse(hints, Refusal::Strayed, n);
     };
     if !is_followed(agent, gaps, apart) {
-        return Filled::Of(n);
+        return Ok(n);
     }
     let ahead = apart.dot(agent.direction);
     let chase = chase::chase_of(agent, leg, gaps, aligned, ahead);

@@ -6,30 +6,22 @@ ghost use Rattle.hint_list.specs.Words.{blank_ranked, count_in, hint_in, hints_i
 ghost use Rattle.hint_list.specs.Adding.{Added};
 
 use crate::hint;
-use crate::hint::{RankedHint, Wait, WaitHint};
+use crate::hint::{RankedHint, WaitHint};
 use number_words::word;
+use refusals::Refusal;
 use shapes::vector::Vector;
 use times::time::{Duration, TimePoint};
 
-// How many hints a list holds now, or a refusal and its number.
-#[derive(Clone, Copy)]
-pub enum Filled {
-    Of(usize),
-    Refused(u64),
-}
-
 // How many hints there are.
+#[tactic(auto, unfolding(crate::specs::Words::count_in))]
 pub fn count_of(hints: &[u64; 385]) -> usize
     ensures { result ≡ count_in hints.now }
 {
-    let n = hints[0];
-    if 64 < n {
-        return 64;
-    }
-    n as usize
+    hints[0].min(64) as usize
 }
 
 // The hint in the six words of place i.
+#[tactic(auto, unfolding(crate::specs::Words::hint_in))]
 fn read(hints: &[u64; 385], i: usize) -> RankedHint
     requires { i < 64 }
     ensures { result ≡ hint_in hints.now i }
@@ -49,6 +41,7 @@ fn read(hints: &[u64; 385], i: usize) -> RankedHint
 }
 
 // Hint i, and a blank one where there is none.
+#[tactic(auto, using(crate::proofs::Reading::few, crate::proofs::Reading::hint_there))]
 pub fn hint_at(hints: &[u64; 385], i: usize) -> RankedHint
     ensures { result ≡ get_or (hints_in hints.now) i blank_ranked }
 {
@@ -67,6 +60,7 @@ pub fn hint_at(hints: &[u64; 385], i: usize) -> RankedHint
 }
 
 // Puts a hint at place i; every other word stays, and all of them where there is no such place.
+#[tactic(auto, unfolding(crate::specs::Words::put_in, crate::specs::Words::set_in))]
 pub fn put_hint(hints: &mut [u64; 385], i: usize, h: RankedHint)
     ensures { hints.new ≡ put_in hints.old i h }
 {
@@ -83,23 +77,25 @@ pub fn put_hint(hints: &mut [u64; 385], i: usize, h: RankedHint)
     hints[6 * i + 6] = hint.obstacle as u64;
 }
 
-// A refusal: its number alone, and no word of the list kept.
-pub fn refuse(hints: &mut [u64; 385], number: u64, n: usize) -> Filled
-    ensures { Added (Refused number) n hints.old hints.new result }
+// A refusal alone: no word of the list is kept.
+#[tactic(auto, unfolding(crate::specs::Adding::filled_of, crate::specs::Adding::laid_by))]
+pub fn refuse(hints: &mut [u64; 385], why: Refusal, n: usize) -> Result<usize, Refusal>
+    ensures { Added (Refused why) n hints.old hints.new result }
 {
     *hints = [0; 385];
-    Filled::Refused(number)
+    Err(why)
 }
 
 // One hint more behind n others, with no rank yet: refused 7 where its place is too far off, then 10 where it would be the 65th.
-pub fn with_hint(hints: &mut [u64; 385], n: usize, hint: WaitHint) -> Filled
+#[tactic(auto, unfolding(crate::specs::Hints::one_hint))]
+pub fn with_hint(hints: &mut [u64; 385], n: usize, hint: WaitHint) -> Result<usize, Refusal>
     ensures { Added (one_hint n hint) n hints.old hints.new result }
 {
     if !hint::is_placed(hint.place) {
-        return refuse(hints, refusals::STRAYED, n);
+        return refuse(hints, Refusal::Strayed, n);
     }
     if 64 <= n {
-        return refuse(hints, refusals::FULL, n);
+        return refuse(hints, Refusal::Full, n);
     }
     let unranked = RankedHint {
         contour: Duration(0),
@@ -107,17 +103,21 @@ pub fn with_hint(hints: &mut [u64; 385], n: usize, hint: WaitHint) -> Filled
         hint,
     };
     put_hint(hints, n, unranked);
-    Filled::Of(n + 1)
+    Ok(n + 1)
 }
 
-// What a part of the search answered, for the obstacle of that number, behind n hints.
-pub fn with_wait(hints: &mut [u64; 385], n: usize, wait: Wait, obstacle: usize) -> Filled
+// What a part of the search answered, where to wait and until when, for the obstacle of that number, behind n hints.
+#[tactic(auto, unfolding(crate::specs::Hints::one_wait, crate::specs::Adding::filled_of, crate::specs::Adding::laid_by))]
+pub fn with_wait(
+    hints: &mut [u64; 385],
+    n: usize,
+    wait: Result<Option<(Vector, TimePoint)>, Refusal>,
+    obstacle: usize,
+) -> Result<usize, Refusal>
     ensures { Added (one_wait n wait obstacle) n hints.old hints.new result }
 {
     match wait {
-        Wait::Refused(number) => refuse(hints, number, n),
-        Wait::Nothing => Filled::Of(n),
-        Wait::At(place, until) => {
+        Ok(Some((place, until))) => {
             let hint = WaitHint {
                 place,
                 until,
@@ -125,5 +125,7 @@ pub fn with_wait(hints: &mut [u64; 385], n: usize, wait: Wait, obstacle: usize) 
             };
             with_hint(hints, n, hint)
         }
+        Ok(None) => Ok(n),
+        Err(why) => refuse(hints, why, n),
     }
 }

@@ -1,7 +1,6 @@
-// A hint, as `WaitHint` of the Rust, with its rank, as `RankedHint`, and what a part of the search for hints answers
-// (docs/RULES.md, 10.40 and 11.8).
+// A hint, as `WaitHint` of the Rust, with its rank, as `RankedHint` (docs/RULES.md, 10.40 and 11.8).
 ghost use Rattle.std.specs.Prelude.{◌≡◌};
-ghost use Rattle.hint_list.specs.Hint.{is_placed};
+ghost use Rattle.hint_list.specs.Hint.{is_within_million, is_placed};
 
 use floats::comparison;
 use shapes::vector::Vector;
@@ -23,20 +22,17 @@ pub struct RankedHint {
     pub hint: WaitHint,
 }
 
-// Where to wait and until when, that there is nothing to wait for, or a refusal and its number.
-#[derive(Clone, Copy)]
-pub enum Wait {
-    At(Vector, TimePoint),
-    Nothing,
-    Refused(u64),
+// Whether a coordinate is at most 1,000,000 in size.
+fn is_within_million(x: f64) -> bool
+    ensures { result ≡ is_within_million x }
+{
+    comparison::is_between(-1000000.0, 1000000.0, x)
 }
 
-// Whether a place is one that a hint may have: no coordinate is past 1,000,000 in size.
+// Whether a place is one that a hint may have.
+#[tactic(auto, unfolding(crate::specs::Hint::is_placed))]
 pub fn is_placed(p: Vector) -> bool
     ensures { result ≡ is_placed p }
 {
-    if !comparison::is_between(-1000000.0, 1000000.0, p.x) {
-        return false;
-    }
-    comparison::is_between(-1000000.0, 1000000.0, p.y)
+    is_within_million(p.x) && is_within_million(p.y)
 }

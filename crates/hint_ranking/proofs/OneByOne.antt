@@ -9,19 +9,16 @@ use native.Mathlib.Omega.{arith}
 use borrow.Author.Tests.{lt-ltb}
 use lib.ListN.{length, take, drop, set, replicate, take-append-drop, length-replicate}
 use lib.Seq.{length-take-le}
+use Rattle.std.proofs.lemmas.List.{drop-replicate}
 use Rattle.hint_list.specs.Words.{count_in, hints_in, all_words, laid}
 use Rattle.hint_list.specs.declared.hint.RankedHint.{RankedHint}
 use Rattle.hint_list.proofs.Reading.{few, first_hints}
-use Rattle.hint_list.proofs.Words.{KeptRanked, AllRankedKept, laid_count, laid_append, laid_again, laid_words, laid_read, drop_zeros}
-use Rattle.hint_ranking.specs.Ranked.{inserted, ranked}
+use Rattle.hint_list.proofs.Words.{KeptRanked, AllRankedKept, laid_count, laid_append, laid_again, laid_words, laid_read}
+use Rattle.hint_ranking.specs.Ranked.{inserted}
 use Rattle.hint_ranking.specs.Hints.{Of, ranked_words, rank_of, ranked_into}
 use Rattle.hint_ranking.proofs.Those.{permuted_length}
 use Rattle.hint_ranking.proofs.Inserted.{by_place, inserted_permuted}
-use Rattle.hint_ranking.proofs.Theorems.{ranked_permuted}
 use Rattle.hint_ranking.proofs.Places.{place_at_most}
-
-pub length_ranked : (l : List RankedHint) → length (ranked l) ≡ length l
-length_ranked l = permuted_length (ranked l) l (ranked_permuted l)
 
 pub length_inserted : (h : RankedHint) (l : List RankedHint) → length (inserted h l) ≡ length l + 1
 length_inserted h l = permuted_length (inserted h l) (h ∷ l) (inserted_permuted h l) ∙ omega arith
@@ -75,7 +72,7 @@ counted_words n l long room =
     let words = length l ∷ replicate n 0 in
     let size : length words ≡ 385 = omega (arith, length-replicate {A = ℕ} n 0) in
     let end : 6 * (0 + length l) + 1 ≡ suc (6 * length l) = omega arith in
-    rw (laid_words words 0 l (omega arith) size, end, drop_zeros n (6 * length l) (omega arith))
+    rw (laid_words words 0 l (omega arith) size, end, drop-replicate {X = ℕ} (6 * length l) n 0)
 
 -- The count, the hints, and zero behind them (RULES 11.8).
 pub answer_words : (l : List RankedHint) → length l ≤ 64 → laid (set (replicate 385 0) 0 (length l)) 0 l ≡ ranked_words (Of l)

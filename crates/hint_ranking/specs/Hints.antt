@@ -1,35 +1,34 @@
 -- Ranked hints: an answer, its words, and one hint more at its place (RULES 11.6 to 11.9).
 -- Assumes nothing.
-use Rattle.std.specs.Prelude.{ℕ, ◌+◌, ◌-◌, ◌*◌, ◌≡◌, cond, List, [], ◌∷◌, ◌++◌, ltb, length, take, drop, replicate}
+use Rattle.std.specs.Prelude.{ℕ, ◌+◌, ◌-◌, ◌*◌, ◌≡◌, cond, List, [], ◌∷◌, ◌++◌, ltb, length, take, drop, replicate, Result, Ok, Err}
+use Rattle.refusals.specs.declared.Refusal.{Refusal}
 use Rattle.hint_list.specs.Words.{count_in, hints_in, all_words, laid}
 use Rattle.hint_list.specs.declared.hint.RankedHint.{RankedHint}
-use Rattle.hint_list.specs.declared.entries.Filled.{Filled}
-use Rattle.hint_list.specs.declared.entries.Filled.TheVariants as F
 use Rattle.hint_ranking.specs.Ranked.{goes_before}
 
--- Hints in order, or a refusal's number alone (RULES 4.14).
+-- Hints in order, or a refusal alone (RULES 4.14).
 pub data Ranked : Type 0 where
   Of : List RankedHint → Ranked
-  Refused : ℕ → Ranked
+  Refused : Refusal → Ranked
 
 -- The hints of an answer; a refusal has none.
 abbrev pub ranked_in : Ranked → List RankedHint
 ranked_in (Of l) = l
-ranked_in (Refused number) = []
+ranked_in (Refused why) = []
 
--- How many there are, or the refusal's number.
-unfoldable pub filled_by : Ranked → Filled
-filled_by (Of l) = F.Of (length l)
-filled_by (Refused number) = F.Refused number
+-- How many there are, or the refusal.
+unfoldable pub filled_by : Ranked → Result ℕ Refusal
+filled_by (Of l) = Ok (length l)
+filled_by (Refused why) = Err why
 
 -- The list of words that an answer leaves: the count, the hints and zero behind them, and zero throughout on a refusal
 -- (RULES 4.14, 11.8).
 unfoldable pub ranked_words : Ranked → List ℕ
 ranked_words (Of l) = length l ∷ (all_words l ++ replicate (384 - 6 * length l) 0)
-ranked_words (Refused number) = replicate 385 0
+ranked_words (Refused why) = replicate 385 0
 
 -- What is handed back and left in the lent list, which reads as the answer's hints.
-pub record Ranks (answer : Ranked) (left : List ℕ) (r : Filled) : Type 0 where
+pub record Ranks (answer : Ranked) (left : List ℕ) (r : Result ℕ Refusal) : Type 0 where
   pub filled : r ≡ filled_by answer
   pub words : left ≡ ranked_words answer
   pub held : hints_in left ≡ ranked_in answer

@@ -5,6 +5,7 @@ ghost use Rattle.hint_ranking.specs.Ranked.{goes_before};
 use hint_list::hint::RankedHint;
 
 // Whether a stands before b: its contour is smaller, or at the same contour its reach.
+#[tactic(auto, unfolding(crate::specs::Ranked::goes_before))]
 pub fn goes_before(a: RankedHint, b: RankedHint) -> bool
     ensures { result ≡ goes_before a b }
 {

@@ -6,9 +6,9 @@ ghost use Rattle.hint_sawtooth.specs.Rounds.{stride_of, round_of, rounds_from};
 use courses::course::{Course, Run};
 use hint_chasing::chase::Chase;
 use hint_list::entries;
-use hint_list::entries::Filled;
 use hint_list::hint::WaitHint;
-use times::time::{Instant, TimePoint};
+use refusals::Refusal;
+use times::time::{Strayed, TimePoint};
 
 // Where a round ends: how far along the line, at how many seconds, and whether that is the end of the line.
 #[derive(Clone, Copy)]
@@ -18,15 +18,15 @@ pub struct Stride {
     pub ended: bool,
 }
 
-// A round: its hint, and where the next sets out from if there is one; or refusal 7.
+// A round: its hint, and where the next sets out from if there is one.
 #[derive(Clone, Copy)]
 pub enum Round {
     Next(WaitHint, f64, f64),
     Last(WaitHint),
-    Strayed,
 }
 
 // From s metres and t seconds the agent catches up with the leg, then waits; it goes no farther than the end of its line.
+#[tactic(auto, unfolding(crate::specs::Rounds::stride_of))]
 fn stride_from(agent: Course, chase: Chase, s: f64, t: f64) -> Stride
     ensures { result ≡ stride_of agent chase s t }
 {
@@ -35,42 +35,43 @@ fn stride_from(agent: Course, chase: Chase, s: f64, t: f64) -> Stride
     let s1 = s + agent.speed * catching;
     let t1 = t + (catching + chase.rest);
     if s1 >= agent.distance {
-        return Stride {
+        Stride {
             s: agent.distance,
             t: t1 - (s1 - agent.distance) / agent.speed,
             ended: true,
-        };
-    }
-    Stride {
-        s: s1,
-        t: t1,
-        ended: false,
+        }
+    } else {
+        Stride {
+            s: s1,
+            t: t1,
+            ended: false,
+        }
     }
 }
 
-fn round_from(agent: Course, leg: Run, chase: Chase, obstacle: usize, s: f64, t: f64) -> Round
+#[tactic(auto, unfolding(crate::specs::Rounds::round_of))]
+fn round_from(
+    agent: Course,
+    leg: Run,
+    chase: Chase,
+    obstacle: usize,
+    s: f64,
+    t: f64,
+) -> Result<Round, Strayed>
     ensures { result ≡ round_of agent leg chase obstacle s t }
 {
     let to = stride_from(agent, chase, s, t);
-    let tp = TimePoint::from_secs_f64(to.t);
-    let Instant::At(at) = tp else {
-        return Round::Strayed;
-    };
-    let run = agent.run;
-    let place = run.from.plus(agent.direction.times(to.s));
-    let until = at.min(leg.end);
+    let at = TimePoint::from_secs_f64(to.t)?;
     let hint = WaitHint {
-        place,
-        until,
+        place: agent.run.from.plus(agent.direction.times(to.s)),
+        until: at.min(leg.end),
         obstacle,
     };
-    if to.ended {
-        return Round::Last(hint);
+    if to.ended || !at.is_before(leg.end) {
+        Ok(Round::Last(hint))
+    } else {
+        Ok(Round::Next(hint, to.s, to.t))
     }
-    if !at.is_before(leg.end) {
-        return Round::Last(hint);
-    }
-    Round::Next(hint, to.s, to.t)
 }
 
 // The rounds from s metres and t seconds on, behind n hints. They end, since each stores a hint or is refused.
@@ -83,26 +84,21 @@ pub fn rounds(
     t: f64,
     hints: &mut [u64; 385],
     n: usize,
-) -> Filled
+) -> Result<usize, Refusal>
     ensures { Added (rounds_from agent leg chase obstacle n s t) n hints.old hints.new result }
 {
     let mut m = n;
     let mut s1 = s;
     let mut t1 = t;
     loop {
-        let turn = round_from(agent, leg, chase, obstacle, s1, t1);
-        match turn {
-            Round::Strayed => return entries::refuse(hints, refusals::STRAYED, m),
-            Round::Last(hint) => return entries::with_hint(hints, m, hint),
-            Round::Next(hint, s2, t2) => {
-                let filled = entries::with_hint(hints, m, hint);
-                let Filled::Of(count) = filled else {
-                    return filled;
-                };
-                m = count;
+        match round_from(agent, leg, chase, obstacle, s1, t1) {
+            Ok(Round::Next(hint, s2, t2)) => {
+                m = entries::with_hint(hints, m, hint)?;
                 s1 = s2;
                 t1 = t2;
             }
+            Ok(Round::Last(hint)) => return entries::with_hint(hints, m, hint),
+            Err(_) => return entries::refuse(hints, Refusal::Strayed, m),
         }
     }
 }

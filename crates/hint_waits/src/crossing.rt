@@ -4,64 +4,68 @@ ghost use Rattle.hint_waits.specs.Crossing.{before_crossing, beside_line, crossi
 
 use courses::course::{Course, Run};
 use courses::norm;
-use courses::norm::Direction;
-use hint_list::hint::Wait;
 use line_proximity::near_line;
-use line_proximity::stationary::Stay;
-use times::time::Instant;
+use refusals::Refusal;
+use shapes::vector::Vector;
+use times::time::TimePoint;
 
 // The agent is beside the leg's way after `wait` seconds, and the leg leaves the agent's way after `end` seconds of its own. There
 // is nothing to wait for where the agent gets there only later.
-fn before_crossing(agent: Course, leg: Run, wait: f64, end: f64) -> Wait
+#[tactic(auto, unfolding(crate::specs::Crossing::before_crossing, crate::specs::Parts::agent_after))]
+fn before_crossing(
+    agent: Course,
+    leg: Run,
+    wait: f64,
+    end: f64,
+) -> Result<Option<(Vector, TimePoint)>, Refusal>
     ensures { result ≡ before_crossing agent leg wait end }
 {
     if !(0.0 <= wait) {
-        return Wait::Nothing;
+        return Ok(None);
     }
     let run = agent.run;
-    let freed = leg.start.plus_secs_f64(end);
-    let Instant::At(until) = freed else {
-        return Wait::Refused(refusals::STRAYED);
-    };
-    let reached = run.start.plus_secs_f64(wait);
-    let Instant::At(arrival) = reached else {
-        return Wait::Refused(refusals::STRAYED);
-    };
+    let until = leg.start.plus_secs_f64(end)?;
+    let arrival = run.start.plus_secs_f64(wait)?;
     if until.is_before(arrival) {
-        return Wait::Nothing;
+        return Ok(None);
     }
-    Wait::At(run.from.plus(run.velocity.times(wait)), until)
+    Ok(Some((run.from.plus(run.velocity.times(wait)), until)))
 }
 
 // The leg leaves the agent's way after `end` seconds of its own; where the agent comes near the leg's way it waits.
-fn beside_line(agent: Course, leg: Run, limit: f64, end: f64) -> Wait
+#[tactic(auto, unfolding(crate::specs::Crossing::beside_line))]
+fn beside_line(
+    agent: Course,
+    leg: Run,
+    limit: f64,
+    end: f64,
+) -> Result<Option<(Vector, TimePoint)>, Refusal>
     ensures { result ≡ beside_line agent leg limit end }
 {
-    let way = norm::try_normalize(leg.to.minus(leg.from));
-    match way {
-        Direction::Refused => Wait::Refused(refusals::NUMBER),
-        Direction::Missing => Wait::Refused(refusals::NO_LINE),
-        Direction::Along(u) => {
-            let run = agent.run;
-            let near = near_line::compute_quadratic_wait_hints(
-                leg.from,
-                leg.to,
-                u,
-                run.from,
-                run.to,
-                run.seconds,
-                limit,
-            );
-            match near {
-                Stay::Refused => Wait::Refused(refusals::NUMBER),
-                Stay::Nothing => Wait::Nothing,
-                Stay::Between(begin, _) => before_crossing(agent, leg, begin, end),
-            }
-        }
+    let u = norm::try_normalize(leg.to.minus(leg.from))?.ok_or(Refusal::NoLine)?;
+    let run = agent.run;
+    let near = near_line::compute_quadratic_wait_hints(
+        leg.from,
+        leg.to,
+        u,
+        run.from,
+        run.to,
+        run.seconds,
+        limit,
+    )?;
+    match near {
+        Some((begin, _)) => before_crossing(agent, leg, begin, end),
+        None => Ok(None),
     }
 }
 
-pub fn crossing_wait(agent: Course, leg: Run, limit: f64) -> Wait
+// Where the agent waits for the leg, and until when.
+#[tactic(auto, unfolding(crate::specs::Crossing::crossing_wait))]
+pub fn crossing_wait(
+    agent: Course,
+    leg: Run,
+    limit: f64,
+) -> Result<Option<(Vector, TimePoint)>, Refusal>
     ensures { result ≡ crossing_wait agent leg limit }
 {
     let run = agent.run;
@@ -73,10 +77,9 @@ pub fn crossing_wait(agent: Course, leg: Run, limit: f64) -> Wait
         leg.to,
         leg.seconds,
         limit,
-    );
+    )?;
     match obstruction {
-        Stay::Refused => Wait::Refused(refusals::NUMBER),
-        Stay::Nothing => Wait::Nothing,
-        Stay::Between(_, end) => beside_line(agent, leg, limit, end),
+        Some((_, end)) => beside_line(agent, leg, limit, end),
+        None => Ok(None),
     }
 }

@@ -3,24 +3,27 @@ ghost use Rattle.std.specs.Prelude.{◌≡◌};
 ghost use Rattle.hint_waits.specs.Oncoming.{oncoming_wait};
 
 use courses::course::{Course, Run};
-use hint_list::hint::Wait;
 use line_proximity::stationary;
-use line_proximity::stationary::Stay;
+use refusals::Refusal;
+use shapes::vector::Vector;
+use times::time::TimePoint;
 
-pub fn oncoming_wait(agent: Course, leg: Run, limit: f64) -> Wait
+// Where the agent waits for the leg, and until when.
+#[tactic(auto, unfolding(crate::specs::Oncoming::oncoming_wait, crate::specs::Parts::agent_after))]
+pub fn oncoming_wait(
+    agent: Course,
+    leg: Run,
+    limit: f64,
+) -> Result<Option<(Vector, TimePoint)>, Refusal>
     ensures { result ≡ oncoming_wait agent leg limit }
 {
     let run = agent.run;
-    let near = stationary::compute_stationary_proximity(leg.to, run.from, run.velocity, limit);
+    let near = stationary::compute_stationary_proximity(leg.to, run.from, run.velocity, limit)?;
     match near {
-        Stay::Refused => Wait::Refused(refusals::NUMBER),
-        Stay::Nothing => Wait::Nothing,
-        Stay::Between(wait, _) => {
-            if !(wait >= 0.0) {
-                return Wait::Nothing;
-            }
-            let end = leg.end;
-            Wait::At(run.from.plus(run.velocity.times(wait)), end)
+        Some((wait, _)) if wait >= 0.0 => {
+            let place = run.from.plus(run.velocity.times(wait));
+            Ok(Some((place, leg.end)))
         }
+        _ => Ok(None),
     }
 }

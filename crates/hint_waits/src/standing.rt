@@ -3,74 +3,59 @@ ghost use Rattle.std.specs.Prelude.{◌≡◌};
 ghost use Rattle.hint_waits.specs.Standing.{first_begin, near_ends, standing_wait};
 
 use courses::course::{Course, Run};
-use hint_list::hint::Wait;
 use line_proximity::stationary;
-use line_proximity::stationary::Stay;
+use refusals::Refusal;
+use shapes::vector::Vector;
+use times::time::TimePoint;
 
-// When the agent comes near, of the seconds for the two ends of a leg: those from 0 on count.
-#[derive(Clone, Copy)]
-pub enum Begin {
-    At(f64),
-    Missing,
-}
-
-// The earlier of the two that count, and of two equal ones the first.
-fn earlier(first: f64, second: f64) -> Begin
+// When the agent comes near, of the seconds for the two ends of a leg: those from 0 on count, the earlier of two, and of two equal
+// ones the first.
+#[tactic(auto, unfolding(crate::specs::Standing::first_begin))]
+fn earlier(first: f64, second: f64) -> Option<f64>
     ensures { result ≡ first_begin first second }
 {
     if !(first >= 0.0) {
         if !(second >= 0.0) {
-            return Begin::Missing;
+            return None;
         }
-        return Begin::At(second);
+        return Some(second);
     }
     if !(second >= 0.0) {
-        return Begin::At(first);
+        return Some(first);
     }
     if second < first {
-        return Begin::At(second);
+        return Some(second);
     }
-    Begin::At(first)
+    Some(first)
 }
 
 // The agent comes near the start of the leg in `first` seconds, and near its end in `second`.
-fn near_ends(agent: Course, leg: Run, first: f64, second: f64) -> Wait
+#[tactic(auto, unfolding(crate::specs::Standing::near_ends, crate::specs::Parts::agent_after))]
+fn near_ends(agent: Course, leg: Run, first: f64, second: f64) -> Option<(Vector, TimePoint)>
     ensures { result ≡ near_ends agent leg first second }
 {
-    let begin = earlier(first, second);
-    let Begin::At(wait) = begin else {
-        return Wait::Nothing;
-    };
+    let wait = earlier(first, second)?;
     let run = agent.run;
-    let end = leg.end;
-    Wait::At(run.from.plus(run.velocity.times(wait)), end)
+    Some((run.from.plus(run.velocity.times(wait)), leg.end))
 }
 
-pub fn standing_wait(agent: Course, leg: Run, limit: f64) -> Wait
+// Where the agent waits for the leg, and until when.
+#[tactic(auto, unfolding(crate::specs::Standing::standing_wait))]
+pub fn standing_wait(
+    agent: Course,
+    leg: Run,
+    limit: f64,
+) -> Result<Option<(Vector, TimePoint)>, Refusal>
     ensures { result ≡ standing_wait agent leg limit }
 {
-    let run = agent.run;
-    let at_start = stationary::compute_stationary_proximity(
-        leg.from,
-        run.from,
-        run.velocity,
-        limit,
-    );
-    match at_start {
-        Stay::Refused => Wait::Refused(refusals::NUMBER),
-        Stay::Nothing => Wait::Nothing,
-        Stay::Between(first, _) => {
-            let at_end = stationary::compute_stationary_proximity(
-                leg.to,
-                run.from,
-                run.velocity,
-                limit,
-            );
-            match at_end {
-                Stay::Refused => Wait::Refused(refusals::NUMBER),
-                Stay::Nothing => Wait::Nothing,
-                Stay::Between(second, _) => near_ends(agent, leg, first, second),
-            }
-        }
-    }
+    let Run { from, velocity, .. } = agent.run;
+    let at_start = stationary::compute_stationary_proximity(leg.from, from, velocity, limit)?;
+    let Some((first, _)) = at_start else {
+        return Ok(None);
+    };
+    let at_end = stationary::compute_stationary_proximity(leg.to, from, velocity, limit)?;
+    let Some((second, _)) = at_end else {
+        return Ok(None);
+    };
+    Ok(near_ends(agent, leg, first, second))
 }

@@ -8,6 +8,9 @@ use mathlib.Core.List.{List, [], ◌∷◌}
 use native.Mathlib.Omega.{arith}
 use lib.IntN.{ℤ, pos, ◌-ℤ◌, +ℤ_invr}
 use lib.Signed.{lt_z, ◌≤ℤ◌, ◌<ℤ◌, lt_z_no, ≤ℤ_refl}
+use Rattle.std.specs.Prelude.{Result, Ok, Err, Option, Some, None}
+use Rattle.refusals.specs.declared.Refusal.{Refusal}
+use Rattle.refusals.specs.declared.Refusal.TheVariants as Refusals
 use Rattle.lent.specs.Listed.{every}
 use Rattle.floats.proofs.Tests.{failed, is_true}
 use Rattle.times.proofs.Integers.{below_or_at_most, at_most_trans, difference_mono}
@@ -18,19 +21,18 @@ use Rattle.shapes.specs.Leg.{is_rising, is_brief}
 use Rattle.shapes.specs.Vector.{dot_of}
 use Rattle.shapes.specs.declared.bounding_box.BoundingBox.{BoundingBox}
 use Rattle.shapes.specs.declared.profile.CircularProfile.{CircularProfile}
+use Rattle.shapes.specs.declared.vector.Vector.{Vector}
 use Rattle.shapes.specs.declared.waypoint.Leg.{Leg}
+use Rattle.times.specs.declared.time.TimePoint.{TimePoint}
 use Rattle.domain.proofs.Within.{leg_start, leg_end, waypoint_time, critical_squared_limit}
 use Rattle.proximity.proofs.Arrivals.{times_given}
 use Rattle.courses.specs.Course.{course_of}
 use Rattle.courses.specs.declared.course.Course.{Course}
 use Rattle.courses.specs.declared.course.Run.{Run}
-use Rattle.courses.specs.declared.course.Heading.{Heading}
-use Rattle.courses.specs.declared.course.Heading.TheVariants as H
 use Rattle.line_proximity.proofs.OnDomain.{Steady, Charted, Headed, leg_runs, course_given}
 use Rattle.table.specs.Obstacle.{Obstacle, legs_of}
 use Rattle.table.proofs.Accepted.{is_driven, is_fit}
 use Rattle.hint_list.specs.Hints.{one_wait}
-use Rattle.hint_list.specs.declared.hint.Wait.{Wait}
 use Rattle.hint_list.proofs.Sound.{MayBe, Sound, none_sound, wait_sound, either_sound, then_sound}
 use Rattle.hint_waits.specs.Crossing.{crossing_wait}
 use Rattle.hint_waits.specs.Standing.{standing_wait}
@@ -45,10 +47,10 @@ use Rattle.hint_walk.specs.declared.leg_hints.Part.{Part}
 use Rattle.hint_walk.specs.declared.leg_hints.Part.TheVariants as P
 
 -- What a part answers is stored, where each refusal that it has may be.
-part_stored : {may : ℕ → Type 0} (n : ℕ) (wait : Wait) (obstacle : ℕ) →
-    n ≤ 64 → Waited may wait → ((number : ℕ) → may number → MayBe number) → Sound n (one_wait n wait obstacle)
+part_stored : {may : Refusal → Type 0} (n : ℕ) (wait : Result (Option (Vector × TimePoint)) Refusal) (obstacle : ℕ) →
+    n ≤ 64 → Waited may wait → ((why : Refusal) → may why → MayBe why) → Sound n (one_wait n wait obstacle)
 part_stored {may} n wait obstacle few answered told =
-    wait_sound n wait obstacle few (λ number e. told number (subst (Waited may) e answered))
+    wait_sound n wait obstacle few (λ why e. told why (subst (Waited may) e answered))
 
 -- ---- One leg.
 
@@ -58,8 +60,8 @@ module _ {own : Leg} {agent : Course} (h : Charted own agent) where
     unfolding part_hints
     part_sound n few = by (part_of agent leg (dot_of leg.velocity agent.direction)) refl
       where
-        stored : (wait : Wait) → Waited NeverRefused wait → Sound n (one_wait n wait obstacle)
-        stored wait answered = part_stored n wait obstacle few answered (λ number never. absurd never)
+        stored : (wait : Result (Option (Vector × TimePoint)) Refusal) → Waited NeverRefused wait → Sound n (one_wait n wait obstacle)
+        stored wait answered = part_stored n wait obstacle few answered (λ why never. absurd never)
 
         by : (part : Part) → part_of agent leg (dot_of leg.velocity agent.direction) ≡ part →
             Sound n (part_hints agent leg gaps obstacle n)
@@ -73,8 +75,8 @@ module _ {own : Leg} {agent : Course} (h : Charted own agent) where
     leg_sound n few =
         let crossing = crossing_wait agent leg gaps.squared in
         then_sound n (one_wait n crossing obstacle) (part_hints agent leg gaps obstacle)
-        (part_stored n crossing obstacle few (crossing_waited gaps.squared h g hl) (λ number.
-        ⊎_elim (λ (e : number ≡ 4). inl e) (λ (e : number ≡ 7). inr (inl e))))
+        (part_stored n crossing obstacle few (crossing_waited gaps.squared h g hl) (λ why.
+        ⊎_elim (λ (e : why ≡ Refusals.NoLine). inl e) (λ (e : why ≡ Refusals.Strayed). inr (inl e))))
         part_sound
 
   -- ---- The legs of an obstacle.
@@ -132,10 +134,10 @@ pub hints_sound : (p : CircularProfile) (leg : Leg) (bounds : BoundingBox) (obst
 unfolding hints_of
 hints_sound p leg bounds obstacles hp e rising fit = by (course_of leg) refl (course_given leg e rising)
   where
-    by : (heading : Heading) → course_of leg ≡ heading → Headed leg heading → Sound 0 (hints_of p leg bounds obstacles)
-    by (H.Along agent) q h = rw q (obstacles_sound h p bounds hp 0 obstacles 0 fit (omega arith))
-    by H.Missing q h = rw q (none_sound 0 (omega arith))
-    by (H.Refused n) q h = absurd h
+    by : (heading : Result (Option Course) Refusal) → course_of leg ≡ heading → Headed leg heading → Sound 0 (hints_of p leg bounds obstacles)
+    by (Ok (Some agent)) q h = rw q (obstacles_sound h p bounds hp 0 obstacles 0 fit (omega arith))
+    by (Ok None) q h = rw q (none_sound 0 (omega arith))
+    by (Err why) q h = absurd h
 
 -- A leg of the table that lasts 10 ns or more is such an agent's (RULES 4.13).
 pub lasting_rises : (leg : Leg) → is_leg leg ≡ true → is_brief leg ≡ false → is_rising leg ≡ true

@@ -1,8 +1,10 @@
 -- The walk over all obstacles and their legs (RULES 10.1 to 10.7).
 -- Assumes nothing.
-use Rattle.std.specs.Prelude.{ℕ, suc, cond, List, [], ◌∷◌, Float}
+use Rattle.std.specs.Prelude.{ℕ, suc, cond, List, [], ◌∷◌, Float, Result, Ok, Err, Option, Some, None}
 use Rattle.floats.specs.Constants.{thousandth}
-use Rattle.refusals.specs.Names.{STRAYED}
+use Rattle.refusals.specs.declared.Refusal.{Refusal}
+use Rattle.refusals.specs.declared.Refusal.TheVariants as Refusals
+use Rattle.times.specs.declared.time.Strayed.{Strayed}
 use Rattle.shapes.specs.Box.{box_of_leg, inflated, overlap}
 use Rattle.shapes.specs.Distance.{critical_distance, critical_distance_squared, follow_distance}
 use Rattle.shapes.specs.declared.bounding_box.BoundingBox.{BoundingBox}
@@ -10,10 +12,7 @@ use Rattle.shapes.specs.declared.profile.CircularProfile.{CircularProfile}
 use Rattle.shapes.specs.declared.waypoint.Leg.{Leg}
 use Rattle.courses.specs.Course.{run_of, course_of}
 use Rattle.courses.specs.declared.course.Course.{Course}
-use Rattle.courses.specs.declared.course.Ran.{Ran}
-use Rattle.courses.specs.declared.course.Ran.TheVariants as N
-use Rattle.courses.specs.declared.course.Heading.{Heading}
-use Rattle.courses.specs.declared.course.Heading.TheVariants as H
+use Rattle.courses.specs.declared.course.Run.{Run}
 use Rattle.table.specs.Obstacle.{Obstacle, legs_of}
 use Rattle.hint_list.specs.Hints.{Hints, Of, Refused, found_then}
 use Rattle.hint_chasing.specs.declared.chase.Gaps.{Gaps}
@@ -36,9 +35,9 @@ hint_box footprint leg = inflated (box_of_leg footprint leg) thousandth
 unfoldable pub near_leg : Course → BoundingBox → Other → Leg → ℕ → Hints
 near_leg agent bounds other leg n = cond (overlap bounds (hint_box other.footprint leg)) (by (run_of leg)) (Of [])
   where
-    by : Ran → Hints
-    by (N.Of run) = leg_hints agent run other.gaps other.number n
-    by N.Strayed = Refused STRAYED
+    by : Result Run Strayed → Hints
+    by (Ok run) = leg_hints agent run other.gaps other.number n
+    by (Err _) = Refused Refusals.Strayed
 
 -- Those for legs in order.
 unfoldable pub near_legs : Course → BoundingBox → Other → List Leg → ℕ → Hints
@@ -60,7 +59,7 @@ near_obstacles agent p bounds number (o ∷ os) n =
 unfoldable pub hints_of : CircularProfile → Leg → BoundingBox → List Obstacle → Hints
 hints_of p leg bounds obstacles = by (course_of leg)
   where
-    by : Heading → Hints
-    by (H.Along agent) = near_obstacles agent p bounds 0 obstacles 0
-    by H.Missing = Of []
-    by (H.Refused number) = Refused number
+    by : Result (Option Course) Refusal → Hints
+    by (Ok (Some agent)) = near_obstacles agent p bounds 0 obstacles 0
+    by (Ok None) = Of []
+    by (Err why) = Refused why

@@ -8,11 +8,11 @@ use courses::course::{Course, Run};
 use hint_chasing::chase::Gaps;
 use hint_following::follow;
 use hint_list::entries;
-use hint_list::entries::Filled;
 use hint_waits::{crossing, oncoming, standing};
+use refusals::Refusal;
 
 // What follows the crossing hint: the leg comes on, outpaces the agent, is followed, or stands.
-#[derive(Clone, Copy)]
+#[derive(Clone, Copy, Debug, PartialEq, Eq)]
 pub enum Part {
     Oncoming,
     Outpacing,
@@ -21,6 +21,7 @@ pub enum Part {
 }
 
 // The part for a leg that goes along the agent's line at the speed `aligned`.
+#[tactic(auto, unfolding(crate::specs::LegHints::part_of))]
 fn part_of(agent: Course, leg: Run, aligned: f64) -> Part
     ensures { result ≡ part_of agent leg aligned }
 {
@@ -41,6 +42,7 @@ fn part_of(agent: Course, leg: Run, aligned: f64) -> Part
 }
 
 // The hints of that part, behind n others.
+#[tactic(auto, unfolding(crate::specs::LegHints::part_hints))]
 fn with_part(
     agent: Course,
     leg: Run,
@@ -48,17 +50,16 @@ fn with_part(
     obstacle: usize,
     hints: &mut [u64; 385],
     n: usize,
-) -> Filled
+) -> Result<usize, Refusal>
     ensures { Added (part_hints agent leg gaps obstacle n) n hints.old hints.new result }
 {
     let aligned = leg.velocity.dot(agent.direction);
-    let part = part_of(agent, leg, aligned);
-    match part {
+    match part_of(agent, leg, aligned) {
         Part::Oncoming => {
             let wait = oncoming::oncoming_wait(agent, leg, gaps.squared);
             entries::with_wait(hints, n, wait, obstacle)
         }
-        Part::Outpacing => Filled::Of(n),
+        Part::Outpacing => Ok(n),
         Part::Following => follow::follow(agent, leg, gaps, aligned, obstacle, hints, n),
         Part::Standing => {
             let wait = standing::standing_wait(agent, leg, gaps.squared);
@@ -68,6 +69,7 @@ fn with_part(
 }
 
 // The hints for a leg, behind n others.
+#[tactic(auto, unfolding(crate::specs::LegHints::leg_hints))]
 pub fn with_leg(
     agent: Course,
     leg: Run,
@@ -75,13 +77,10 @@ pub fn with_leg(
     obstacle: usize,
     hints: &mut [u64; 385],
     n: usize,
-) -> Filled
+) -> Result<usize, Refusal>
     ensures { Added (leg_hints agent leg gaps obstacle n) n hints.old hints.new result }
 {
     let wait = crossing::crossing_wait(agent, leg, gaps.squared);
-    let filled = entries::with_wait(hints, n, wait, obstacle);
-    let Filled::Of(m) = filled else {
-        return filled;
-    };
+    let m = entries::with_wait(hints, n, wait, obstacle)?;
     with_part(agent, leg, gaps, obstacle, hints, m)
 }

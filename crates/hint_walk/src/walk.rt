@@ -6,10 +6,10 @@ ghost use Rattle.hint_walk.specs.Walk.{gaps_of, other_of, near_leg, near_obstacl
 
 use crate::leg_hints;
 use courses::course;
-use courses::course::{Course, Heading, Ran};
+use courses::course::Course;
 use hint_chasing::chase::Gaps;
 use hint_list::entries;
-use hint_list::entries::Filled;
+use refusals::Refusal;
 use shapes::bounding_box::BoundingBox;
 use shapes::profile::CircularProfile;
 use shapes::waypoint::Leg;
@@ -24,6 +24,7 @@ pub struct Other {
 }
 
 // The distances that the agent keeps from an obstacle.
+#[tactic(auto, unfolding(crate::specs::Walk::gaps_of))]
 fn gaps_of(p: CircularProfile, other: CircularProfile) -> Gaps
     ensures { result ≡ gaps_of p other }
 {
@@ -34,6 +35,7 @@ fn gaps_of(p: CircularProfile, other: CircularProfile) -> Gaps
     }
 }
 
+#[tactic(auto, unfolding(crate::specs::Walk::other_of))]
 fn other_of(p: CircularProfile, number: usize, profile: CircularProfile) -> Other
     ensures { result ≡ other_of p number profile }
 {
@@ -46,6 +48,7 @@ fn other_of(p: CircularProfile, number: usize, profile: CircularProfile) -> Othe
 
 // The hints for a leg, behind n others; none where its box, a little larger than that of its footprint, does not overlap the
 // agent's.
+#[tactic(auto, unfolding(crate::specs::Walk::near_leg))]
 fn near_leg(
     agent: Course,
     bounds: BoundingBox,
@@ -53,16 +56,15 @@ fn near_leg(
     leg: Leg,
     hints: &mut [u64; 385],
     n: usize,
-) -> Filled
+) -> Result<usize, Refusal>
     ensures { Added (near_leg agent bounds other leg n) n hints.old hints.new result }
 {
     let around = BoundingBox::for_line(other.footprint, leg).inflated_by(1e-3);
     if !bounds.overlaps(around) {
-        return Filled::Of(n);
+        return Ok(n);
     }
-    let ran = course::run_of(leg);
-    let Ran::Of(run) = ran else {
-        return entries::refuse(hints, refusals::STRAYED, n);
+    let Ok(run) = course::run_of(leg) else {
+        return entries::refuse(hints, Refusal::Strayed, n);
     };
     leg_hints::with_leg(agent, run, other.gaps, other.number, hints, n)
 }
@@ -77,24 +79,18 @@ fn with_obstacle(
     o: usize,
     hints: &mut [u64; 385],
     n: usize,
-) -> Filled
+) -> Result<usize, Refusal>
     ensures { Added (near_obstacle agent p bounds o (obstacle_in marks.now places.now o) n) n hints.old
         hints.new result }
 {
     let other = other_of(p, o, reading::profile_at(places, o));
     let last = walked::walked_to(bounds, marks, places, o);
     let mut m = n;
-    let mut i = reading::first_of(marks, o);
-    while i < last {
+    for i in reading::first_of(marks, o)..last {
         let leg = reading::leg_at(marks, places, i);
-        let filled = near_leg(agent, bounds, other, leg, hints, m);
-        let Filled::Of(count) = filled else {
-            return filled;
-        };
-        m = count;
-        i += 1;
+        m = near_leg(agent, bounds, other, leg, hints, m)?;
     }
-    Filled::Of(m)
+    Ok(m)
 }
 
 // The hints for the legs of all obstacles of a table, in order.
@@ -105,26 +101,20 @@ fn with_obstacles(
     marks: &[u64; 417],
     places: &[f64; 800],
     hints: &mut [u64; 385],
-) -> Filled
+) -> Result<usize, Refusal>
     ensures { Added (near_obstacles agent p bounds 0 (obstacles_in marks.now places.now) 0) 0 hints.old
         hints.new result }
 {
-    let count = reading::count_of(marks);
     let mut n = 0;
-    let mut o = 0;
-    while o < count {
-        let filled = with_obstacle(agent, p, bounds, marks, places, o, hints, n);
-        let Filled::Of(m) = filled else {
-            return filled;
-        };
-        n = m;
-        o += 1;
+    for o in 0..reading::count_of(marks) {
+        n = with_obstacle(agent, p, bounds, marks, places, o, hints, n)?;
     }
-    Filled::Of(n)
+    Ok(n)
 }
 
 // The hints for a leg of the agent's, whose box is `bounds`, in the order of finding, from the first place of a list on; none where
 // the agent hardly moves.
+#[tactic(auto, unfolding(crate::specs::Walk::hints_of))]
 pub fn compute_wait_hints(
     p: CircularProfile,
     agent: Leg,
@@ -132,14 +122,13 @@ pub fn compute_wait_hints(
     marks: &[u64; 417],
     places: &[f64; 800],
     hints: &mut [u64; 385],
-) -> Filled
+) -> Result<usize, Refusal>
     ensures { Added (hints_of p agent bounds (obstacles_in marks.now places.now)) 0 hints.old
         hints.new result }
 {
-    let heading = course::course_of(agent);
-    match heading {
-        Heading::Refused(number) => entries::refuse(hints, number, 0),
-        Heading::Missing => Filled::Of(0),
-        Heading::Along(way) => { with_obstacles(way, p, bounds, marks, places, hints) }
+    match course::course_of(agent) {
+        Err(why) => entries::refuse(hints, why, 0),
+        Ok(None) => Ok(0),
+        Ok(Some(way)) => with_obstacles(way, p, bounds, marks, places, hints),
     }
 }

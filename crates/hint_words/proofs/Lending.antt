@@ -10,10 +10,13 @@ use borrow.Author.Tests.{leb-true, le-leb}
 use lib.Dec.{leb}
 use lib.Ieee
 use lib.Ieee.{Float}
-use lib.ListN.{length, get_or, take, replicate, length-append, get_or-append}
+use lib.ListN.{length, get_or, take, drop, replicate, length-append, get_or-append}
 use lib.Seq.{length-take-le, get_or-take}
+use Rattle.std.specs.Prelude.{Result, Ok, Err}
+use Rattle.refusals.specs.declared.Refusal.{Refusal}
+use Rattle.refusals.specs.declared.Refusal.TheVariants as Refusals
 use Rattle.lent.specs.Listed.{listed, every}
-use Rattle.lent.proofs.Listed.{length_listed, listed_same}
+use Rattle.lent.proofs.Listed.{length_listed, listed_same, every_done, every_fails, every_passes}
 use Rattle.floats.specs.Compare.{is_between}
 use Rattle.floats.proofs.Tests.{passed, is_true}
 use Rattle.floats.proofs.Preorder.{right_known}
@@ -21,11 +24,10 @@ use Rattle.times.specs.Time.{is_exact}
 use Rattle.times.proofs.Exact.{both}
 use Rattle.hint_list.specs.Words.{count_in, hint_in, hints_in, all_words}
 use Rattle.hint_list.specs.declared.hint.RankedHint.{RankedHint}
-use Rattle.hint_list.specs.declared.entries.Filled.{Filled}
-use Rattle.hint_list.proofs.Reading.{few, counted}
-use Rattle.hint_list.proofs.Words.{AllRankedKept, length_words, hints_back, held_kept}
+use Rattle.hint_list.proofs.Reading.{few, counted, hint_there, no_hints}
+use Rattle.hint_list.proofs.Words.{AllRankedKept, length_words, drop_zeros, hints_back, held_kept}
 use Rattle.hint_ranking.specs.Ranked.{is_known, sorted}
-use Rattle.hint_ranking.specs.Hints.{Of, Refused, Ranks, ranked_words}
+use Rattle.hint_ranking.specs.Hints.{Of, Refused, Ranks, filled_by, ranked_words}
 use Rattle.hint_words.specs.Lent.{is_finite, is_hint, are_shaped, lent_hints}
 
 -- ---- The words.
@@ -80,6 +82,28 @@ module _ (words rest : List ℕ) (shaped : are_shaped words ≡ true) where
       ap (λ (m : ℕ). listed (hint_in copy) m 0) count ∙
       listed_same (hint_in copy) (hint_in words) n 0 (λ i lo hi. copied_hint i (omega arith))
 
+-- Behind them in a list of 385 zeros stand these.
+pub zeros_behind : (words : List ℕ) → are_shaped words ≡ true →
+    drop {A = ℕ} (1 + 6 * get_or words 0 0) (replicate 385 0) ≡ replicate (384 - 6 * get_or words 0 0) 0
+zeros_behind words shaped =
+    let few = shaped_few words shaped in
+    let rest : 385 - (1 + 6 * get_or words 0 0) ≡ 384 - 6 * get_or words 0 0 = omega arith in
+    drop_zeros 385 (1 + 6 * get_or words 0 0) (omega arith) ∙ ap (λ (k : ℕ). replicate k 0) rest
+
+-- What is handed back with a refusal, or with hints.
+pub refused_filled : (why : Refusal) → filled_by (Refused why) ≡ Err why
+unfolding filled_by
+refused_filled why = refl
+
+pub given_filled : (l : List RankedHint) → filled_by (Of l) ≡ Ok (length l)
+unfolding filled_by
+given_filled l = refl
+
+-- What a test of every hint needs, and what the call that takes them over does.
+pub ruleset testing = (hint_there, every_done, every_fails, every_passes)
+
+pub ruleset lending = (counted, no_hints, lent_count, copied_hints, refused_filled, given_filled)
+
 -- ---- What the tests tell.
 
 between_known : (lo hi x : Float) → is_between lo hi x ≡ true → not (Ieee.is_nan x) ≡ true
@@ -119,7 +143,7 @@ lent_taken obstacles words l e = by (are_shaped words) (every (is_hint obstacles
     given = hints_lent words
 
     by : (shaped tested : Bool) → are_shaped words ≡ shaped → (every (is_hint obstacles) given && sorted given) ≡ tested →
-        cond shaped (cond tested (Of given) (Refused 1)) (Refused 2) ≡ Of l → Taken obstacles words l
+        cond shaped (cond tested (Of given) (Refused Refusals.Number)) (Refused Refusals.Shape) ≡ Of l → Taken obstacles words l
     by true true s t e =
         let same : l ≡ given = cc in
         let tests = both (every (is_hint obstacles) given) (sorted given) t in
@@ -130,20 +154,22 @@ lent_taken obstacles words l e = by (are_shaped words) (every (is_hint obstacles
           all_known = rw same (every_known obstacles given tests.0);
           in_order = rw same tests.1;
         }
-    by true false s t e = absurd (let z : ◌≡◌ {A = ℕ} 0 1 = cc in omega arith)
-    by false tested s t e = absurd (let z : ◌≡◌ {A = ℕ} 0 1 = cc in omega arith)
+    by true false s t e = absurd (cc)
+    by false tested s t e = absurd (cc)
 
 -- They are refused 2 for their count, 1 for what is asked of them, and with no other number (RULES 11.9, 11.10).
-pub lent_refusal : (obstacles : ℕ) (words : List ℕ) (n : ℕ) → lent_hints obstacles words ≡ Refused n → (n ≡ 1) ⊎ (n ≡ 2)
+pub lent_refusal : (obstacles : ℕ) (words : List ℕ) (why : Refusal) → lent_hints obstacles words ≡ Refused why →
+    (why ≡ Refusals.Number) ⊎ (why ≡ Refusals.Shape)
 unfolding lent_hints
-lent_refusal obstacles words n e =
+lent_refusal obstacles words why e =
     by (are_shaped words) (every (is_hint obstacles) given && sorted given) e
   where
     given : List RankedHint
     given = hints_lent words
 
-    by : (shaped tested : Bool) → cond shaped (cond tested (Of given) (Refused 1)) (Refused 2) ≡ Refused n → (n ≡ 1) ⊎ (n ≡ 2)
-    by true true e = absurd (let z : ◌≡◌ {A = ℕ} 0 1 = cc in omega arith)
+    by : (shaped tested : Bool) → cond shaped (cond tested (Of given) (Refused Refusals.Number)) (Refused Refusals.Shape) ≡ Refused why →
+        (why ≡ Refusals.Number) ⊎ (why ≡ Refusals.Shape)
+    by true true e = cc
     by true false e = inl (cc)
     by false tested e = inr (cc)
 
@@ -160,7 +186,7 @@ lent_again obstacles l rest few kept hints order =
     rw (le-leb (length l) 64 few, le-leb (1 + 6 * length l) (length words) inside, same, hints, order)
 
 -- So hints that were handed out, and are in the table and ranked, are taken as they were.
-pub handed_again : (obstacles : ℕ) (l : List RankedHint) (words : List ℕ) (r : Filled) →
+pub handed_again : (obstacles : ℕ) (l : List RankedHint) (words : List ℕ) (r : Result ℕ Refusal) →
     Ranks (Of l) words r → every (is_hint obstacles) l ≡ true → sorted l ≡ true → lent_hints obstacles words ≡ Of l
 unfolding ranked_words
 handed_again obstacles l words r handed hints order =

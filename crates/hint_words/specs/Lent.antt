@@ -1,9 +1,11 @@
 -- Hints as an answer's words, and what is asked of those that a call is lent (RULES 11.8 to 11.10).
 -- Assumes nothing.
-use Rattle.std.specs.Prelude.{ℕ, ◌+◌, ◌-◌, ◌*◌, ◌≡◌, Bool, cond, ◌&&◌, List, ◌∷◌, ◌++◌, leb, ltb, length, get_or, take, replicate, Float}
+use Rattle.std.specs.Prelude.{ℕ, ◌+◌, ◌-◌, ◌*◌, ◌≡◌, Bool, cond, ◌&&◌, List, ◌∷◌, ◌++◌, leb, ltb, length, get_or, take, replicate, Float, Result}
 use Rattle.std.specs.Float.Ieee
 use Rattle.std.specs.Float.{binary64}
-use Rattle.refusals.specs.Names.{NUMBER, SHAPE}
+use Rattle.refusals.specs.declared.Refusal.{Refusal}
+use Rattle.refusals.specs.declared.Refusal.TheVariants as Refusals
+use Rattle.refusals.specs.Names.{refusal_number}
 use Rattle.lent.specs.Listed.{listed, every}
 use Rattle.lent.specs.Outcome.{Outcome, Gives, Refuses}
 use Rattle.floats.specs.Compare.{is_between}
@@ -11,14 +13,13 @@ use Rattle.times.specs.Time.{is_exact}
 use Rattle.hint_list.specs.Hint.{is_placed}
 use Rattle.hint_list.specs.Words.{hint_in, hints_in, all_words}
 use Rattle.hint_list.specs.declared.hint.RankedHint.{RankedHint}
-use Rattle.hint_list.specs.declared.entries.Filled.{Filled}
 use Rattle.hint_ranking.specs.Ranked.{sorted}
 use Rattle.hint_ranking.specs.Hints.{Ranked, Of, Refused, ranked_in, filled_by}
 
 -- The number and the words of an answer: how many hints there are, and they (RULES 11.8).
 unfoldable pub hints_outcome : Ranked → Outcome
 hints_outcome (Of l) = Gives (length l ∷ all_words l)
-hints_outcome (Refused number) = Refuses number
+hints_outcome (Refused why) = Refuses (refusal_number why)
 
 -- ---- The table's row.
 
@@ -41,17 +42,17 @@ are_shaped words = let n = get_or words 0 0 in leb n 64 && leb (1 + 6 * n) (leng
 unfoldable pub lent_hints : ℕ → List ℕ → Ranked
 lent_hints obstacles words =
     let l = listed (hint_in words) (get_or words 0 0) 0 in
-    cond (are_shaped words) (cond (every (is_hint obstacles) l && sorted l) (Of l) (Refused NUMBER)) (Refused SHAPE)
+    cond (are_shaped words) (cond (every (is_hint obstacles) l && sorted l) (Of l) (Refused Refusals.Number)) (Refused Refusals.Shape)
 
 -- ---- Taken over into a list of the call's own.
 
 -- The words as they were lent and zero behind them, and zero throughout on a refusal.
 unfoldable pub copied_by : Ranked → List ℕ → List ℕ
 copied_by (Of l) words = take (1 + 6 * length l) words ++ replicate (384 - 6 * length l) 0
-copied_by (Refused number) words = replicate 385 0
+copied_by (Refused why) words = replicate 385 0
 
 -- What is handed back and left in the list, which reads as the answer's hints.
-pub record Takes (answer : Ranked) (words left : List ℕ) (r : Filled) : Type 0 where
+pub record Takes (answer : Ranked) (words left : List ℕ) (r : Result ℕ Refusal) : Type 0 where
   pub filled : r ≡ filled_by answer
   pub copied : left ≡ copied_by answer words
   pub held : hints_in left ≡ ranked_in answer

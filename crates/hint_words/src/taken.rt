@@ -6,12 +6,13 @@ ghost use Rattle.hint_list.specs.Words.{hints_in};
 ghost use Rattle.hint_words.specs.Lent.{is_finite, is_hint, are_shaped, lent_hints, Takes};
 
 use floats::comparison;
-use hint_list::entries::Filled;
 use hint_list::hint::RankedHint;
 use hint_list::{entries, hint};
 use hint_ranking::ranked_hints;
+use refusals::Refusal;
 
 // Whether the count is at most 64, and the words reach as far.
+#[tactic(auto, unfolding(crate::specs::Lent::are_shaped))]
 fn are_shaped(words: &[u64]) -> bool
     ensures { result ≡ are_shaped words.now }
 {
@@ -26,6 +27,7 @@ fn are_shaped(words: &[u64]) -> bool
 }
 
 // Copies lent hints, with zero behind them.
+#[tactic(auto, using(crate::proofs::Lending::zeros_behind), unfolding(crate::specs::Lent::are_shaped))]
 fn copy(words: &[u64], hints: &mut [u64; 385])
     requires { are_shaped words.now ≡ true }
     ensures { hints.new ≡ take (1 + 6 * get_or words.now 0 0) words.now ++ replicate
@@ -33,13 +35,10 @@ fn copy(words: &[u64], hints: &mut [u64; 385])
 {
     *hints = [0; 385];
     let end = 1 + 6 * words[0] as usize;
-    let mut k = 0;
-    while k < end {
-        hints[k] = words[k];
-        k += 1;
-    }
+    hints[..end].copy_from_slice(&words[..end]);
 }
 
+#[tactic(auto, unfolding(crate::specs::Lent::is_finite))]
 fn is_finite(x: f64) -> bool
     ensures { result ≡ is_finite x }
 {
@@ -47,6 +46,7 @@ fn is_finite(x: f64) -> bool
 }
 
 // Whether a hint's numbers are in the table, with so many obstacles.
+#[tactic(auto, unfolding(crate::specs::Lent::is_hint))]
 fn is_hint(h: RankedHint, obstacles: usize) -> bool
     ensures { result ≡ is_hint obstacles h }
 {
@@ -67,36 +67,35 @@ fn is_hint(h: RankedHint, obstacles: usize) -> bool
 }
 
 // Whether all of them are.
+#[tactic(auto, using(crate::proofs::Lending::testing), unfolding(hint_list::specs::Words::hints_in))]
 fn are_hints(hints: &[u64; 385], obstacles: usize) -> bool
     ensures { result ≡ every (is_hint obstacles) (hints_in hints.now) }
 {
-    let n = entries::count_of(hints);
-    let mut i = 0;
-    while i < n {
+    for i in 0..entries::count_of(hints) {
         if !is_hint(entries::hint_at(hints, i), obstacles) {
             return false;
         }
-        i += 1;
     }
     true
 }
 
 // Takes lent hints over: refused 2 for their count, then 1 for their numbers and for hints that are not ranked.
-pub fn lent_hints(words: &[u64], obstacles: usize, hints: &mut [u64; 385]) -> Filled
+#[tactic(auto, using(crate::proofs::Lending::lending), unfolding(crate::specs::Lent::lent_hints, crate::specs::Lent::copied_by))]
+pub fn lent_hints(words: &[u64], obstacles: usize, hints: &mut [u64; 385]) -> Result<usize, Refusal>
     ensures { Takes (lent_hints obstacles words.now) words.now hints.new result }
 {
     if !are_shaped(words) {
         *hints = [0; 385];
-        return Filled::Refused(refusals::SHAPE);
+        return Err(Refusal::Shape);
     }
     copy(words, hints);
     if !are_hints(hints, obstacles) {
         *hints = [0; 385];
-        return Filled::Refused(refusals::NUMBER);
+        return Err(Refusal::Number);
     }
     if !ranked_hints::is_ranked(hints) {
         *hints = [0; 385];
-        return Filled::Refused(refusals::NUMBER);
+        return Err(Refusal::Number);
     }
-    Filled::Of(entries::count_of(hints))
+    Ok(entries::count_of(hints))
 }

@@ -6,12 +6,12 @@ use mathlib.Core.Path.{◌≡◌, refl, sym, ap, ◌∙◌}
 use mathlib.Core.List.{List, [], ◌∷◌, map}
 use native.Mathlib.Omega.{arith}
 use lib.ListN.{length, set, replicate, length-map}
+use Rattle.std.specs.Prelude.{Result, Ok, Err}
+use Rattle.refusals.specs.declared.Refusal.{Refusal}
 use Rattle.hint_list.specs.Words.{unranked, count_in, hints_in, laid}
 use Rattle.hint_list.specs.Hints as W
 use Rattle.hint_list.specs.Adding.{Added, filled_of, laid_by}
 use Rattle.hint_list.specs.declared.hint.WaitHint.{WaitHint}
-use Rattle.hint_list.specs.declared.entries.Filled.{Filled}
-use Rattle.hint_list.specs.declared.entries.Filled.TheVariants as F
 use Rattle.hint_list.proofs.Reading.{counted, no_hints}
 use Rattle.hint_list.proofs.Words.{laid_count, laid_again, laid_held, set_laid, unranked_kept}
 use Rattle.hint_ranking.specs.Hints.{Ranked, Of, Refused, Ranks, filled_by, ranked_words}
@@ -31,7 +31,7 @@ unfolding count_in
 empty_count n few = omega arith
 
 -- n hints were added to a list that was empty.
-module _ (hs : List WaitHint) (n : ℕ) (lent : List ℕ) (added : Added (W.Of hs) 0 (replicate 385 0) lent (F.Of n)) where
+module _ (hs : List WaitHint) (n : ℕ) (lent : List ℕ) (added : Added (W.Of hs) 0 (replicate 385 0) lent (Ok n)) where
   size : n ≡ length hs
   unfolding filled_of
   size = let whole : 0 + length hs ≡ length hs = omega arith in cc added.filled
@@ -55,7 +55,7 @@ module _ (hs : List WaitHint) (n : ℕ) (lent : List ℕ) (added : Added (W.Of h
       ap found_in with_count_law ∙ ap (map (λ r. r.hint)) held ∙ as_found hs
 
   -- What is ranked over them leaves nothing of them.
-  pub ranked_words_law : (answer : Ranked) (left : List ℕ) (r : Filled) → RanksOver answer (set lent 0 n) left r → Ranks answer left r
+  pub ranked_words_law : (answer : Ranked) (left : List ℕ) (r : Result ℕ Refusal) → RanksOver answer (set lent 0 n) left r → Ranks answer left r
   unfolding ranked_over ranked_words
   ranked_words_law (Of l) left r ranks =
       let over : left ≡ laid (laid (empty n) 0 (map unranked hs)) 0 l =
@@ -70,10 +70,10 @@ module _ (hs : List WaitHint) (n : ℕ) (lent : List ℕ) (added : Added (W.Of h
             ap (λ (k : ℕ). laid (empty k) 0 l) (sym same) ∙ answer_words l (omega (arith, room));
         held = ranks.held;
       }
-  ranked_words_law (Refused number) left r ranks = record { filled = ranks.filled; words = ranks.words; held = ranks.held }
+  ranked_words_law (Refused why) left r ranks = record { filled = ranks.filled; words = ranks.words; held = ranks.held }
 
--- A search that is refused leaves zeros and its number, as the answer does (RULES 4.14).
-pub refused_ranks : (number : ℕ) (lent left : List ℕ) →
-    Added (W.Refused number) 0 lent left (F.Refused number) → Ranks (Refused number) left (F.Refused number)
+-- A search that is refused leaves zeros and its refusal, as the answer does (RULES 4.14).
+pub refused_ranks : (why : Refusal) (lent left : List ℕ) →
+    Added (W.Refused why) 0 lent left (Err why) → Ranks (Refused why) left (Err why)
 unfolding laid_by filled_by ranked_words
-refused_ranks number lent left added = record { filled = refl; words = added.words; held = ap hints_in added.words ∙ no_hints }
+refused_ranks why lent left added = record { filled = refl; words = added.words; held = ap hints_in added.words ∙ no_hints }

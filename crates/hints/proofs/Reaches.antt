@@ -5,6 +5,9 @@ use mathlib.Core.Bool.{Bool, true, false, not, cond}
 use lib.IntN.{pos}
 use lib.Ieee
 use lib.Ieee.{Float, binary64, add, sub, mul, div, neg, lt, le, is_nan, of_bits}
+use Rattle.std.specs.Prelude.{Result, Ok, Err}
+use Rattle.refusals.specs.declared.Refusal.{Refusal}
+use Rattle.refusals.specs.declared.Refusal.TheVariants as Refusals
 use Rattle.floats.proofs.Relations.{Finite}
 use Rattle.floats.proofs.Magnitude.{Within}
 use Rattle.floats.specs.Compare.{is_between}
@@ -13,10 +16,9 @@ use Rattle.floats.proofs.Tests.{passed, failed, is_true}
 use Rattle.floats.proofs.Strict.{not-lt→le}
 use Rattle.floats.proofs.NotANumber.{finite_known}
 use Rattle.floats.proofs.Bounds.{within_known, within_finite, within_of_bounds, within_le, within_lower, within_upper}
-use Rattle.times.specs.Time.{is_exact, span_between, seconds_of, span_of_seconds, with_span}
+use Rattle.times.specs.Time.{is_exact, span_between, seconds_of, span_of_seconds, with_span, strayed}
+use Rattle.times.specs.declared.time.Strayed.{Strayed}
 use Rattle.times.specs.declared.time.Duration.{Duration}
-use Rattle.times.specs.declared.time.Span.{Span}
-use Rattle.times.specs.declared.time.Span.TheVariants as S
 use Rattle.times.proofs.Exact.{both}
 use Rattle.times.proofs.Answers.{span_of_seconds_exact}
 use Rattle.times.proofs.Spans.{span_from}
@@ -38,10 +40,6 @@ use Rattle.hint_words.specs.Lent.{is_finite}
 use Rattle.hint_list.specs.declared.hint.RankedHint.{RankedHint}
 use Rattle.hints.specs.Contour.{scale_of, contour_of, grade_of}
 use Rattle.hints.specs.declared.contour.Scale.{Scale}
-use Rattle.hints.specs.declared.contour.Scaling.{Scaling}
-use Rattle.hints.specs.declared.contour.Scaling.TheVariants as L
-use Rattle.hints.specs.declared.contour.Grade.{Grade}
-use Rattle.hints.specs.declared.contour.Grade.TheVariants as G
 
 -- ---- The scale of a leg.
 
@@ -51,11 +49,11 @@ pub record Bounded (scale : Scale) : Type 0 where
   pub direction_within : Spans steepest scale.direction
 
 -- A scale is such a one, and a refusal is 4 (RULES 4.4, 11.1).
-abbrev pub Scaled : Scaling → Type 0
-Scaled (L.By scale) = Bounded scale
-Scaled (L.Refused n) = n ≡ 4
+abbrev pub Scaled : Result Scale Refusal → Type 0
+Scaled (Ok scale) = Bounded scale
+Scaled (Err why) = why ≡ Refusals.NoLine
 
-unless_short : (short : Bool) (s : Scaling) → (short ≡ false → Scaled s) → Scaled (cond short (L.Refused 4) s)
+unless_short : (short : Bool) (s : Result Scale Refusal) → (short ≡ false → Scaled s) → Scaled (cond short (Err Refusals.NoLine) s)
 unless_short true s h = refl
 unless_short false s h = h refl
 
@@ -90,7 +88,7 @@ module _ (leg : Leg) (e : is_leg leg ≡ true) where
       let least = not-lt→le n hundred_millionth (finite_known n f.is_finite_law) (unfold is_nan in tt) (failed long) in
       spans_le steepest (spans_divided hundred_millionth n way_spans least f.is_finite_law tt tt) (unfold le in tt)
 
-  lasts : span_between leg.start.time leg.end.time ≡ S.Of (span_from leg.start.time leg.end.time)
+  lasts : span_between leg.start.time leg.end.time ≡ Ok (span_from leg.start.time leg.end.time)
   lasts =
       let start = waypoint_time leg.start (leg_start leg e) in
       let end = waypoint_time leg.end (leg_end leg e) in
@@ -114,24 +112,24 @@ pub record Measured (h : WaitHint) (r : RankedHint) : Type 0 where
   pub reach_known : is_known r ≡ true
   pub reach_in_table : is_finite r.reach ≡ true
 
-abbrev Graded : WaitHint → Grade → Type 0
-Graded h (G.Of r) = Measured h r
-Graded h G.Strayed = Unit
+abbrev Graded : WaitHint → Result RankedHint Strayed → Type 0
+Graded h (Ok r) = Measured h r
+Graded h (Err _) = Unit
 
-spanning_graded : (h : WaitHint) (s : Span) (go : Duration → Grade) →
-    ((d : Duration) → s ≡ S.Of d → Graded h (go d)) → Graded h (with_span G.Strayed s go)
-spanning_graded h (S.Of d) go k = k d refl
-spanning_graded h S.Strayed go k = tt
+spanning_graded : (h : WaitHint) (s : Result Duration Strayed) (go : Duration → Result RankedHint Strayed) →
+    ((d : Duration) → s ≡ Ok d → Graded h (go d)) → Graded h (with_span strayed s go)
+spanning_graded h (Ok d) go k = k d refl
+spanning_graded h (Err _) go k = tt
 
 -- A contour is made of seconds, so it was held against the reach (RULES 11.4).
-contour_given : (speed wait reach : Float) (d : Duration) → contour_of speed wait reach ≡ S.Of d → is_exact d.0 ≡ true
+contour_given : (speed wait reach : Float) (d : Duration) → contour_of speed wait reach ≡ Ok d → is_exact d.0 ≡ true
 unfolding contour_of
 contour_given speed wait reach d = by (lt hundred_millionth speed)
   where
     late : Float
     late = sub binary64 wait (div binary64 reach speed)
 
-    by : (b : Bool) → cond b (span_of_seconds late) (span_of_seconds wait) ≡ S.Of d → is_exact d.0 ≡ true
+    by : (b : Bool) → cond b (span_of_seconds late) (span_of_seconds wait) ≡ Ok d → is_exact d.0 ≡ true
     by true e = span_of_seconds_exact late d e
     by false e = span_of_seconds_exact wait d e
 
@@ -140,7 +138,7 @@ abbrev million : Float
 million = Ieee.of_int binary64 (pos 1000000)
 
 placed_spans : (p : Vector) → is_placed p ≡ true → Spans million p
-unfolding is_placed is_between
+unfolding is_placed is_within_million is_between
 placed_spans p e =
     let held = both (is_within_million p.x) (is_within_million p.y) e in
     record { x_within = within p.x held.0; y_within = within p.y held.1 }
@@ -178,7 +176,7 @@ graded {scale} h m e =
     }))
 
 -- All that holds of a hint within 10^6 that the scale of a leg of the table graded (RULES 4.7, 10.42, 11.1 to 11.4).
-pub grade_measured : (leg : Leg) {scale : Scale} (h : WaitHint) {r : RankedHint} → is_leg leg ≡ true → scale_of leg ≡ L.By scale →
-    is_placed h.place ≡ true → grade_of scale h ≡ G.Of r → Measured h r
+pub grade_measured : (leg : Leg) {scale : Scale} (h : WaitHint) {r : RankedHint} → is_leg leg ≡ true → scale_of leg ≡ Ok scale →
+    is_placed h.place ≡ true → grade_of scale h ≡ Ok r → Measured h r
 grade_measured leg h legal by placed given =
     subst (Graded h) given (graded h (subst Scaled by (scale_given leg legal)) placed)

@@ -1,13 +1,15 @@
 -- The contour and the reach of a hint, and the hints of a leg ranked by them (RULES 11.1 to 11.7).
 -- Assumes nothing.
-use Rattle.std.specs.Prelude.{cond, List, [], ◌∷◌, Float}
+use Rattle.std.specs.Prelude.{cond, List, [], ◌∷◌, Float, Result, Ok, Err}
 use Rattle.std.specs.Float.Ieee
 use Rattle.std.specs.Float.{binary64}
-use Rattle.refusals.specs.Names.{NUMBER, NO_LINE, STRAYED}
+use Rattle.refusals.specs.declared.Refusal.{Refusal}
+use Rattle.refusals.specs.declared.Refusal.TheVariants as Refusals
 use Rattle.root.specs.Root.{with_root}
 use Rattle.floats.specs.Constants.{hundred_millionth}
-use Rattle.times.specs.Time.{span_between, seconds_of, span_of_seconds, with_span}
-use Rattle.times.specs.declared.time.Span.{Span}
+use Rattle.times.specs.Time.{span_between, seconds_of, span_of_seconds, with_span, strayed}
+use Rattle.times.specs.declared.time.Duration.{Duration}
+use Rattle.times.specs.declared.time.Strayed.{Strayed}
 use Rattle.shapes.specs.Leg.{place_of}
 use Rattle.shapes.specs.Vector.{vector_difference, divided, dot_of}
 use Rattle.shapes.specs.declared.bounding_box.BoundingBox.{BoundingBox}
@@ -23,22 +25,18 @@ use Rattle.hint_ranking.specs.Ranked.{inserted}
 use Rattle.hint_ranking.specs.Hints.{Ranked, Of, Refused}
 use Rattle.hint_walk.specs.Walk.{hints_of}
 use Rattle.hints.specs.declared.contour.Scale.{Scale}
-use Rattle.hints.specs.declared.contour.Scaling.{Scaling}
-use Rattle.hints.specs.declared.contour.Scaling.TheVariants as L
-use Rattle.hints.specs.declared.contour.Grade.{Grade}
-use Rattle.hints.specs.declared.contour.Grade.TheVariants as G
 
 -- ---- One hint.
 
 -- The agent's line: 4 where it is shorter than 1e-8 (RULES 11.1).
-unfoldable pub scale_of : Leg → Scaling
+unfoldable pub scale_of : Leg → Result Scale Refusal
 scale_of leg =
     let way = vector_difference (place_of leg.end) (place_of leg.start) in
-    with_root (L.Refused NUMBER) (norm_of way) (λ distance.
+    with_root (Err Refusals.Number) (norm_of way) (λ distance.
     cond (Ieee.lt distance hundred_millionth)
-    (L.Refused NO_LINE)
-    (with_span (L.Refused STRAYED) (span_between leg.start.time leg.end.time) (λ d.
-    L.By (record {
+    (Err Refusals.NoLine)
+    (with_span (Err Refusals.Strayed) (span_between leg.start.time leg.end.time) (λ d.
+    Ok (record {
       start = leg.start.time;
       from = place_of leg.start;
       direction = divided way distance;
@@ -46,17 +44,17 @@ scale_of leg =
     }))))
 
 -- The wait less the time that the agent takes to get there, where it gets along at all (RULES 11.4).
-unfoldable pub contour_of : Float → Float → Float → Span
+unfoldable pub contour_of : Float → Float → Float → Result Duration Strayed
 contour_of speed wait reach =
     cond (Ieee.lt hundred_millionth speed) (span_of_seconds (Ieee.sub binary64 wait (Ieee.div binary64 reach speed))) (span_of_seconds wait)
 
 -- Its reach, then its wait, then its contour (RULES 11.2 to 11.4, 11.8).
-unfoldable pub grade_of : Scale → WaitHint → Grade
+unfoldable pub grade_of : Scale → WaitHint → Result RankedHint Strayed
 grade_of scale h =
     let reach = dot_of (vector_difference h.place scale.from) scale.direction in
-    with_span G.Strayed (span_between scale.start h.until) (λ d.
-    with_span G.Strayed (contour_of scale.speed (seconds_of d.0) reach) (λ contour.
-    G.Of (record { contour = contour; reach = reach; hint = h })))
+    with_span strayed (span_between scale.start h.until) (λ d.
+    with_span strayed (contour_of scale.speed (seconds_of d.0) reach) (λ contour.
+    Ok (record { contour = contour; reach = reach; hint = h })))
 
 -- ---- All of them.
 
@@ -65,14 +63,14 @@ unfoldable pub graded_onto : Scale → List RankedHint → List WaitHint → Ran
 graded_onto scale done [] = Of done
 graded_onto scale done (h ∷ hs) = by (grade_of scale h) (λ found. graded_onto scale found hs)
   where
-    by : Grade → (List RankedHint → Ranked) → Ranked
-    by (G.Of r) go = go (inserted r done)
-    by G.Strayed go = Refused STRAYED
+    by : Result RankedHint Strayed → (List RankedHint → Ranked) → Ranked
+    by (Ok r) go = go (inserted r done)
+    by (Err _) go = Refused Refusals.Strayed
 
 -- Hints that were found, by the scale of the agent's leg; 4 where it has none (RULES 11.1).
-unfoldable pub measured_by : Scaling → List WaitHint → Ranked
-measured_by (L.By scale) hs = graded_onto scale [] hs
-measured_by (L.Refused number) hs = Refused number
+unfoldable pub measured_by : Result Scale Refusal → List WaitHint → Ranked
+measured_by (Ok scale) hs = graded_onto scale [] hs
+measured_by (Err why) hs = Refused why
 
 -- The ranked hints of a leg of the agent's in its box: all are found first, then measured (RULES 5.7, 11.1, 11.5).
 unfoldable pub ranked_hints : CircularProfile → Leg → BoundingBox → List Obstacle → Ranked
@@ -80,4 +78,4 @@ ranked_hints p leg bounds obstacles = by (hints_of p leg bounds obstacles)
   where
     by : Hints → Ranked
     by (W.Of hs) = measured_by (scale_of leg) hs
-    by (W.Refused number) = Refused number
+    by (W.Refused why) = Refused why

@@ -4,8 +4,7 @@ ghost use Rattle.hint_ranking.specs.Hints.{Ranks};
 ghost use Rattle.hints.specs.Asked.{asked_hints};
 
 use crate::path_hints;
-use domain::limits::Examined;
-use hint_list::entries::Filled;
+use refusals::Refusal;
 use shapes::bounding_box::BoundingBox;
 use shapes::profile::CircularProfile;
 use shapes::waypoint::Leg;
@@ -13,6 +12,7 @@ use table_checks::examine;
 use table_packing::packing;
 
 // The ranked hints for the agent's leg in a lent list, in the box of its own footprint, among the obstacles of a lent table.
+#[tactic(auto, using(crate::proofs::Packed::packed), unfolding(crate::specs::Asked::asked_hints))]
 pub fn wait_hints(
     p: CircularProfile,
     agent: Leg,
@@ -22,7 +22,7 @@ pub fn wait_hints(
     xs: &[f64],
     ys: &[f64],
     hints: &mut [u64; 385],
-) -> Filled
+) -> Result<usize, Refusal>
     ensures { Ranks
         (asked_hints p agent
         (lent_of starts.now numbers.now times.now xs.now ys.now))
@@ -31,17 +31,12 @@ pub fn wait_hints(
     let mut marks = [0u64; 417];
     let mut places = [0.0; 800];
     let packed = packing::pack(starts, numbers, times, xs, ys, &mut marks, &mut places);
-    let input = examine::examine(packed, p, agent, &marks, &places);
-    match input {
-        Examined::Refused(n) => path_hints::refuse(hints, n),
-        Examined::Fine => {
-            if agent.is_brief() {
-                return path_hints::refuse(hints, refusals::NO_LINE);
-            }
-            let bounds = BoundingBox::for_line(p.footprint, agent);
-            path_hints::compute_safe_linear_path_wait_hints(
-                p, agent, bounds, &marks, &places, hints,
-            )
-        }
+    if let Err(why) = examine::examine(packed, p, agent, &marks, &places) {
+        return path_hints::refuse(hints, why);
     }
+    if agent.is_brief() {
+        return path_hints::refuse(hints, Refusal::NoLine);
+    }
+    let bounds = BoundingBox::for_line(p.footprint, agent);
+    path_hints::compute_safe_linear_path_wait_hints(p, agent, bounds, &marks, &places, hints)
 }

@@ -4,10 +4,10 @@ ghost use Rattle.hints.specs.Contour.{scale_of, contour_of, grade_of};
 
 use courses::norm;
 use hint_list::hint::{RankedHint, WaitHint};
-use root::nearest::Root;
+use refusals::Refusal;
 use shapes::vector::Vector;
 use shapes::waypoint::Leg;
-use times::time::{Duration, Span, TimePoint};
+use times::time::{Duration, Strayed, TimePoint};
 
 // What hints are measured by: the agent's start, its direction, and its speed along it.
 #[derive(Clone, Copy)]
@@ -18,53 +18,30 @@ pub struct Scale {
     pub speed: f64,
 }
 
-// A scale, or a refusal and its number.
-#[derive(Clone, Copy)]
-pub enum Scaling {
-    By(Scale),
-    Refused(u64),
-}
-
-// A ranked hint, or refusal 7.
-#[derive(Clone, Copy)]
-pub enum Grade {
-    Of(RankedHint),
-    Strayed,
-}
-
 // The scale of a leg of the agent's; refused 4 where it is shorter than 1e-8.
-pub fn scale_of(agent: Leg) -> Scaling
+#[tactic(auto, unfolding(crate::specs::Contour::scale_of))]
+pub fn scale_of(agent: Leg) -> Result<Scale, Refusal>
     ensures { result ≡ scale_of agent }
 {
-    let first = agent.start;
-    let from = first.place();
-    let last = agent.end;
-    let way = last.place().minus(from);
-    let long = norm::norm(way);
-    let Root::Of(distance) = long else {
-        return Scaling::Refused(refusals::NUMBER);
-    };
+    let Leg { start, end } = agent;
+    let from = start.place();
+    let way = end.place().minus(from);
+    let distance = norm::norm(way)?;
     if distance < 1e-8 {
-        return Scaling::Refused(refusals::NO_LINE);
+        return Err(Refusal::NoLine);
     }
-    let start = agent.start.time;
-    let end = agent.end.time;
-    let lasting = end.since(start);
-    let Span::Of(d) = lasting else {
-        return Scaling::Refused(refusals::STRAYED);
-    };
-    let direction = way.over(distance);
-    let speed = distance / d.as_secs_f64();
-    Scaling::By(Scale {
-        start,
+    let seconds = end.time.since(start.time)?.as_secs_f64();
+    Ok(Scale {
+        start: start.time,
         from,
-        direction,
-        speed,
+        direction: way.over(distance),
+        speed: distance / seconds,
     })
 }
 
 // How late the agent is that waits for so many seconds after its start, so far along its line.
-fn contour_of(speed: f64, wait: f64, reach: f64) -> Span
+#[tactic(auto, unfolding(crate::specs::Contour::contour_of))]
+fn contour_of(speed: f64, wait: f64, reach: f64) -> Result<Duration, Strayed>
     ensures { result ≡ contour_of speed wait reach }
 {
     if speed > 1e-8 {
@@ -73,19 +50,14 @@ fn contour_of(speed: f64, wait: f64, reach: f64) -> Span
     Duration::from_secs_f64(wait)
 }
 
-pub fn grade_of(scale: Scale, hint: WaitHint) -> Grade
+#[tactic(auto, unfolding(crate::specs::Contour::grade_of))]
+pub fn grade_of(scale: Scale, hint: WaitHint) -> Result<RankedHint, Strayed>
     ensures { result ≡ grade_of scale hint }
 {
     let reach = hint.place.minus(scale.from).dot(scale.direction);
-    let waiting = hint.until.since(scale.start);
-    let Span::Of(d) = waiting else {
-        return Grade::Strayed;
-    };
-    let late = contour_of(scale.speed, d.as_secs_f64(), reach);
-    let Span::Of(contour) = late else {
-        return Grade::Strayed;
-    };
-    Grade::Of(RankedHint {
+    let wait = hint.until.since(scale.start)?.as_secs_f64();
+    let contour = contour_of(scale.speed, wait, reach)?;
+    Ok(RankedHint {
         contour,
         reach,
         hint,

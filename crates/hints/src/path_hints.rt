@@ -1,62 +1,58 @@
 // The ranked hints of a leg: `compute_safe_linear_path_wait_hints` of the Rust (docs/RULES.md, section 11).
-ghost use Rattle.std.specs.Prelude.{◌≡◌, List, [], length, replicate};
+ghost use Rattle.std.specs.Prelude.{◌≡◌, List, [], length, replicate, Ok};
 ghost use Rattle.table.specs.Table.{obstacles_in};
 ghost use Rattle.hint_list.specs.Hints.{Of};
 ghost use Rattle.hint_list.specs.Adding.{Added};
 ghost use Rattle.hint_list.specs.declared.hint.WaitHint.{WaitHint};
-ghost use Rattle.hint_list.specs.declared.entries.Filled.TheVariants as F;
 ghost use Rattle.hint_ranking.specs.Hints.{Ranks, Refused};
 ghost use Rattle.hints.specs.Contour.{scale_of, graded_onto, measured_by, ranked_hints};
 ghost use Rattle.hints.specs.Ranking.{RanksOver, found_in};
 
 use crate::contour;
-use crate::contour::{Grade, Scale, Scaling};
+use crate::contour::Scale;
 use hint_list::entries;
-use hint_list::entries::Filled;
 use hint_ranking::ranked_hints;
 use hint_walk::walk;
+use refusals::Refusal;
 use shapes::bounding_box::BoundingBox;
 use shapes::profile::CircularProfile;
 use shapes::waypoint::Leg;
 
-// A refusal: its number alone, and no word of the list kept.
-pub(crate) fn refuse(hints: &mut [u64; 385], number: u64) -> Filled
-    ensures { Ranks (Refused number) hints.new result }
+// A refusal alone: no word of the list is kept.
+pub(crate) fn refuse(hints: &mut [u64; 385], why: Refusal) -> Result<usize, Refusal>
+    ensures { Ranks (Refused why) hints.new result }
 {
     *hints = [0; 385];
-    Filled::Refused(number)
+    Err(why)
 }
 
 // The hints of a list, measured one by one in the order of finding and ranked in their place.
-fn rank(scale: Scale, hints: &mut [u64; 385]) -> Filled
+fn rank(scale: Scale, hints: &mut [u64; 385]) -> Result<usize, Refusal>
     requires { length hints.old ≡ 385 }
     ensures { RanksOver (graded_onto scale [] (found_in hints.old)) hints.old hints.new result }
 {
     let n = entries::count_of(hints);
-    let mut i = 0;
-    while i < n {
+    for i in 0..n {
         let found = entries::hint_at(hints, i);
-        let grade = contour::grade_of(scale, found.hint);
-        let Grade::Of(ranked) = grade else {
-            return refuse(hints, refusals::STRAYED);
+        let Ok(ranked) = contour::grade_of(scale, found.hint) else {
+            return refuse(hints, Refusal::Strayed);
         };
         ranked_hints::put_in_rank(hints, i, ranked);
-        i += 1;
     }
-    Filled::Of(n)
+    Ok(n)
 }
 
 // The n hints that were found, which stand in a list that was empty, with their count, ranked along the agent's leg.
-fn measure(agent: Leg, hints: &mut [u64; 385], n: usize) -> Filled
+#[tactic(auto, unfolding(crate::specs::Contour::measured_by))]
+fn measure(agent: Leg, hints: &mut [u64; 385], n: usize) -> Result<usize, Refusal>
     requires { length hints.old ≡ 385 }
-    ensures { (hs : List WaitHint) → Added (Of hs) 0 (replicate 385 0) hints.old (F.Of n) → Ranks
+    ensures { (hs : List WaitHint) → Added (Of hs) 0 (replicate 385 0) hints.old (Ok n) → Ranks
         (measured_by (scale_of agent) hs) hints.new result }
 {
     hints[0] = n as u64;
-    let scaling = contour::scale_of(agent);
-    match scaling {
-        Scaling::Refused(number) => refuse(hints, number),
-        Scaling::By(scale) => rank(scale, hints),
+    match contour::scale_of(agent) {
+        Err(refusal) => refuse(hints, refusal),
+        Ok(scale) => rank(scale, hints),
     }
 }
 
@@ -68,13 +64,10 @@ pub fn compute_safe_linear_path_wait_hints(
     marks: &[u64; 417],
     places: &[f64; 800],
     hints: &mut [u64; 385],
-) -> Filled
+) -> Result<usize, Refusal>
     ensures { Ranks (ranked_hints p agent bounds (obstacles_in marks.now places.now)) hints.new result }
 {
     *hints = [0; 385];
-    let filled = walk::compute_wait_hints(p, agent, bounds, marks, places, hints);
-    let Filled::Of(n) = filled else {
-        return filled;
-    };
+    let n = walk::compute_wait_hints(p, agent, bounds, marks, places, hints)?;
     measure(agent, hints, n)
 }

@@ -4,7 +4,7 @@ use Prim.Native.Nat.{ℕ, ◌<◌, ◌≤◌}
 use mathlib.Core.Path.{◌≡◌, refl, sym, ap, subst, ◌∙◌}
 use mathlib.Core.Bool.{Bool, true, false}
 use mathlib.Core.List.{List, [], ◌∷◌, ◌++◌, append-nil, append_assoc}
-use mathlib.Core.Option.{Option, none, some}
+use Rattle.std.proofs.Common.{Option, None, Some}
 use native.Mathlib.Omega.{arith}
 use borrow.Author.Tests.{ltb-true, ltb-false}
 use lib.Dec.{ltb}
@@ -14,7 +14,7 @@ use Rattle.hold_year.specs.Year.{Taken, year_from, year_in}
 use Rattle.hold_claims.specs.Claims.{SayThese, NoMore, And, RefusedAt, TooMany, Malformed, Decided, AllTaken, ByLine, ByTotal}
 use Rattle.hold_claims.proofs.Walk.{fits_with, in_turn, too_many, malformed, overflows, one_more}
 
-say_more : (lines : List (List ℕ)) (hs : List Held) (line : List ℕ) (h : Held) → line_in line ≡ some h → SayThese lines hs →
+say_more : (lines : List (List ℕ)) (hs : List Held) (line : List ℕ) (h : Held) → line_in line ≡ Some h → SayThese lines hs →
     SayThese (lines ++ (line ∷ [])) (hs ++ (h ∷ []))
 say_more _ _ line h says NoMore = And line [] h [] says NoMore
 say_more _ _ line h says (And first lines g hs said rest) =
@@ -40,7 +40,7 @@ left_decides text done rest hs r = ap (year_from []) r.parted ∙ in_turn [] don
 
 -- One line more is taken.
 reached_more : (text : List ℕ) (done rest : List (List ℕ)) (hs : List Held) (line : List ℕ) (h : Held) →
-    Reached text done (line ∷ rest) hs → ltb (length hs) 100_000 ≡ true → line_in line ≡ some h → fits_with hs h ≡ true →
+    Reached text done (line ∷ rest) hs → ltb (length hs) 100_000 ≡ true → line_in line ≡ Some h → fits_with hs h ≡ true →
     Reached text (done ++ (line ∷ [])) rest (hs ++ (h ∷ []))
 unfolding year_from
 reached_more text done rest hs line h r room says fits =
@@ -74,7 +74,7 @@ from_here text done (line ∷ rest) hs r =
     decides : year_in text ≡ year_from hs (line ∷ rest)
     decides = left_decides text done (line ∷ rest) hs r
 
-    summed : ltb (length hs) 100_000 ≡ true → (h : Held) → line_in line ≡ some h → (b : Bool) → fits_with hs h ≡ b → later →
+    summed : ltb (length hs) 100_000 ≡ true → (h : Held) → line_in line ≡ Some h → (b : Bool) → fits_with hs h ≡ b → later →
         Decided text
     summed room h says true fits go = go h (reached_more text done rest hs line h r room says fits)
     summed room h says false fits go =
@@ -83,8 +83,8 @@ from_here text done (line ∷ rest) hs r =
         (decides ∙ overflows hs line rest h room says fits)
 
     said : ltb (length hs) 100_000 ≡ true → (o : Option Held) → line_in line ≡ o → later → Decided text
-    said room (some h) says go = summed room h says (fits_with hs h) refl go
-    said room none says go = ByLine here (Malformed says) (decides ∙ malformed hs line rest room says)
+    said room (Some h) says go = summed room h says (fits_with hs h) refl go
+    said room None says go = ByLine here (Malformed says) (decides ∙ malformed hs line rest room says)
 
     counted : (b : Bool) → ltb (length hs) 100_000 ≡ b → later → Decided text
     counted true room go = said room (line_in line) refl go

@@ -4,12 +4,12 @@ use Prim.Native.Nat.{ℕ, ◌+◌}
 use mathlib.Core.Path.{◌≡◌, refl, ap, subst, ◌∙◌}
 use mathlib.Core.Bool.{Bool, true, false, cond}
 use mathlib.Core.List.{List, [], ◌∷◌, ◌++◌}
-use mathlib.Core.Option.{Option, none, some}
+use Rattle.std.proofs.Common.{Option, None, Some}
 use native.Mathlib.Omega.{arith}
 use borrow.Author.Tests.{lt-ltb, le-ltb}
 use lib.Dec.{ltb}
 use lib.ListN.{length, length-append}
-use Rattle.refusals.specs.Names.{LINE, OVERFLOW}
+use Rattle.refusals.specs.declared.Refusal.TheVariants as Refusals
 use Rattle.hold_lines.specs.Text.{Held, line_in}
 use Rattle.hold_year.specs.Year.{Year, Taken, Refused, from_line, with_total, year_from, year_in}
 use Rattle.hold_claims.specs.Claims.{RefusedAt, BadLine, TooMany, Malformed, Overflows}
@@ -17,7 +17,7 @@ use Rattle.hold_claims.proofs.Walk.{OfTaken, fits_with, in_turn, too_many, malfo
 
 weaker : (P Q : List Held → Type 0) (y : Year) → ((now : List Held) → P now → Q now) → OfTaken P y → OfTaken Q y
 weaker P Q (Taken now) f p = f now p
-weaker P Q (Refused n) f p = tt
+weaker P Q (Refused why) f p = tt
 
 -- Each line that is taken is one more.
 AsMany : List Held → List (List ℕ) → List Held → Type 0
@@ -32,7 +32,7 @@ taken_count hs (line ∷ lines) = read (ltb (length hs) 100_000) (line_in line) 
     Rest h = OfTaken (AsMany (hs ++ (h ∷ [])) lines) (year_from (hs ++ (h ∷ [])) lines)
 
     summed : (h : Held) (b : Bool) → Rest h →
-        OfTaken (AsMany hs (line ∷ lines)) (cond b (year_from (hs ++ (h ∷ [])) lines) (Refused OVERFLOW))
+        OfTaken (AsMany hs (line ∷ lines)) (cond b (year_from (hs ++ (h ∷ [])) lines) (Refused Refusals.Overflow))
     summed h true rest =
         weaker (AsMany (hs ++ (h ∷ [])) lines) (AsMany hs (line ∷ lines)) (year_from (hs ++ (h ∷ [])) lines)
         (λ now same. omega (arith, same, length-append hs (h ∷ [])))
@@ -41,9 +41,9 @@ taken_count hs (line ∷ lines) = read (ltb (length hs) 100_000) (line_in line) 
 
     read : (b : Bool) (said : Option Held) → ((h : Held) → Rest h) →
         OfTaken (AsMany hs (line ∷ lines))
-        (cond b (from_line said (λ h. with_total hs h (λ now. year_from now lines))) (Refused LINE))
-    read true (some h) rest = summed h (fits_with hs h) (rest h)
-    read true none rest = tt
+        (cond b (from_line said (λ h. with_total hs h (λ now. year_from now lines))) (Refused Refusals.Line))
+    read true (Some h) rest = summed h (fits_with hs h) (rest h)
+    read true None rest = tt
     read false said rest = tt
 
 -- As many were read as lines stand before the one that decides, and that one decides.
@@ -56,16 +56,16 @@ module _ (text : List ℕ) (r : RefusedAt text) where
   unfolding year_in
   line_decides = ap (year_from []) r.parted ∙ in_turn [] r.before (r.line ∷ r.behind) r.read r.taken
 
-  pub refused_14 : BadLine text r → year_in text ≡ Refused 14
+  pub refused_14 : BadLine text r → year_in text ≡ Refused Refusals.Line
   refused_14 (TooMany all) =
       line_decides ∙ too_many r.read r.line r.behind (le-ltb (length r.read) 100_000 (omega (arith, read_count, all)))
   refused_14 (Malformed says) = line_decides ∙ by (ltb (length r.read) 100_000) refl
     where
-      by : (b : Bool) → ltb (length r.read) 100_000 ≡ b → year_from r.read (r.line ∷ r.behind) ≡ Refused 14
+      by : (b : Bool) → ltb (length r.read) 100_000 ≡ b → year_from r.read (r.line ∷ r.behind) ≡ Refused Refusals.Line
       by true room = malformed r.read r.line r.behind room says
       by false full = too_many r.read r.line r.behind full
 
-  pub refused_15 : Overflows text r → year_in text ≡ Refused 15
+  pub refused_15 : Overflows text r → year_in text ≡ Refused Refusals.Overflow
   refused_15 o =
       let room = lt-ltb (length r.read) 100_000 (omega (arith, read_count, o.in_number)) in
       line_decides ∙ overflows r.read r.line r.behind o.held room o.says o.leaves

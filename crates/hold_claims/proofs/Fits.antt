@@ -4,7 +4,7 @@ use Prim.Native.Nat.{ℕ, ◌<◌}
 use mathlib.Core.Path.{◌≡◌, subst}
 use mathlib.Core.Bool.{true}
 use mathlib.Core.List.{List, [], ◌∷◌, ◌++◌}
-use mathlib.Core.Option.{some}
+use Rattle.std.proofs.Common.{Some}
 use native.Mathlib.Omega.{arith}
 use lib.IntN.{ℤ}
 use Rattle.hold_lines.specs.Text.{Held, line_in}
@@ -27,7 +27,7 @@ pub taken_fits : (text : List ℕ) (hs : List Held) → year_in text ≡ Taken h
 unfolding year_in
 taken_fits text hs e = subst (OfTaken Fits) e (year_keeps Fits step [] _ (record { sound = sound_none; crews = tt }))
   where
-    step : (before : List Held) (line : List ℕ) (h : Held) → line_in line ≡ some h → fits_with before h ≡ true → Fits before →
+    step : (before : List Held) (line : List ℕ) (h : Held) → line_in line ≡ Some h → fits_with before h ≡ true → Fits before →
         Fits (before ++ (h ∷ []))
     step before line h says fits kept =
         let limited = line_limited line h says in

@@ -4,10 +4,10 @@ use Prim.Native.Nat.{ℕ}
 use mathlib.Core.Path.{◌≡◌, refl, ap, ◌∙◌}
 use mathlib.Core.Bool.{Bool, true, false, cond}
 use mathlib.Core.List.{List, [], ◌∷◌, ◌++◌}
-use mathlib.Core.Option.{Option, none, some}
+use Rattle.std.proofs.Common.{Option, None, Some}
 use lib.Dec.{ltb}
 use lib.ListN.{length}
-use Rattle.refusals.specs.Names.{LINE, OVERFLOW}
+use Rattle.refusals.specs.declared.Refusal.TheVariants as Refusals
 use Rattle.hold_lines.specs.Text.{Held, line_in}
 use Rattle.hold_figures.specs.Crews.{holds_of, total_of, is_signed64}
 use Rattle.hold_year.specs.Year.{Year, Taken, Refused, from_line, with_total, year_from}
@@ -19,11 +19,11 @@ fits_with before h = is_signed64 (total_of (holds_of h.crew (before ++ (h ∷ []
 -- Of a year that was taken, P holds.
 abbrev pub OfTaken : (List Held → Type 0) → Year → Type 0
 OfTaken P (Taken hs) = P hs
-OfTaken P (Refused n) = Unit {0}
+OfTaken P (Refused why) = Unit {0}
 
 -- What holds of the lines before and is kept by each that is taken, holds of all.
 pub year_keeps : (P : List Held → Type 0) →
-    ((before : List Held) (line : List ℕ) (h : Held) → line_in line ≡ some h → fits_with before h ≡ true → P before →
+    ((before : List Held) (line : List ℕ) (h : Held) → line_in line ≡ Some h → fits_with before h ≡ true → P before →
     P (before ++ (h ∷ []))) →
     (before : List Held) (lines : List (List ℕ)) → P before → OfTaken P (year_from before lines)
 unfolding year_from
@@ -34,21 +34,21 @@ year_keeps P step before (line ∷ lines) p =
     rest : Type 0
     rest = (now : List Held) → P now → OfTaken P (year_from now lines)
 
-    summed : (h : Held) → line_in line ≡ some h → (b : Bool) → fits_with before h ≡ b → rest →
-        OfTaken P (cond b (year_from (before ++ (h ∷ [])) lines) (Refused OVERFLOW))
+    summed : (h : Held) → line_in line ≡ Some h → (b : Bool) → fits_with before h ≡ b → rest →
+        OfTaken P (cond b (year_from (before ++ (h ∷ [])) lines) (Refused Refusals.Overflow))
     summed h says true fits go = go (before ++ (h ∷ [])) (step before line h says fits p)
     summed h says false fits go = tt
 
     read : (b : Bool) (said : Option Held) → line_in line ≡ said → rest →
-        OfTaken P (cond b (from_line said (λ h. with_total before h (λ now. year_from now lines))) (Refused LINE))
-    read true (some h) says go = summed h says (fits_with before h) refl go
-    read true none says go = tt
+        OfTaken P (cond b (from_line said (λ h. with_total before h (λ now. year_from now lines))) (Refused Refusals.Line))
+    read true (Some h) says go = summed h says (fits_with before h) refl go
+    read true None says go = tt
     read false said says go = tt
 
 -- Goes on with the lines that were taken.
 abbrev onward : Year → (List Held → Year) → Year
 onward (Taken hs) go = go hs
-onward (Refused n) go = Refused n
+onward (Refused why) go = Refused why
 
 both_parts : (before : List Held) (first second : List (List ℕ)) →
     year_from before (first ++ second) ≡ onward (year_from before first) (λ now. year_from now second)
@@ -61,17 +61,17 @@ both_parts before (line ∷ lines) second =
     same = (now : List Held) → year_from now (lines ++ second) ≡ onward (year_from now lines) (λ now. year_from now second)
 
     summed : (now : List Held) (b : Bool) → same →
-        cond b (year_from now (lines ++ second)) (Refused OVERFLOW) ≡
-        onward (cond b (year_from now lines) (Refused OVERFLOW)) (λ now. year_from now second)
+        cond b (year_from now (lines ++ second)) (Refused Refusals.Overflow) ≡
+        onward (cond b (year_from now lines) (Refused Refusals.Overflow)) (λ now. year_from now second)
     summed now true go = go now
     summed now false go = refl
 
     read : (b : Bool) (said : Option Held) → same →
-        cond b (from_line said (λ h. with_total before h (λ now. year_from now (lines ++ second)))) (Refused LINE) ≡
-        onward (cond b (from_line said (λ h. with_total before h (λ now. year_from now lines))) (Refused LINE))
+        cond b (from_line said (λ h. with_total before h (λ now. year_from now (lines ++ second)))) (Refused Refusals.Line) ≡
+        onward (cond b (from_line said (λ h. with_total before h (λ now. year_from now lines))) (Refused Refusals.Line))
         (λ now. year_from now second)
-    read true (some h) go = summed (before ++ (h ∷ [])) (fits_with before h) go
-    read true none go = refl
+    read true (Some h) go = summed (before ++ (h ∷ [])) (fits_with before h) go
+    read true None go = refl
     read false said go = refl
 
 -- Where the first part is taken, the second decides.
@@ -82,21 +82,21 @@ in_turn before first second now taken = both_parts before first second ∙ ap (�
 -- ---- One line behind those that were taken.
 
 pub too_many : (hs : List Held) (line : List ℕ) (lines : List (List ℕ)) → ltb (length hs) 100_000 ≡ false →
-    year_from hs (line ∷ lines) ≡ Refused LINE
+    year_from hs (line ∷ lines) ≡ Refused Refusals.Line
 unfolding year_from
 too_many hs line lines full = rw (full)
 
 pub malformed : (hs : List Held) (line : List ℕ) (lines : List (List ℕ)) → ltb (length hs) 100_000 ≡ true →
-    line_in line ≡ none → year_from hs (line ∷ lines) ≡ Refused LINE
+    line_in line ≡ None → year_from hs (line ∷ lines) ≡ Refused Refusals.Line
 unfolding year_from
 malformed hs line lines room says = rw (room, says)
 
 pub overflows : (hs : List Held) (line : List ℕ) (lines : List (List ℕ)) (h : Held) → ltb (length hs) 100_000 ≡ true →
-    line_in line ≡ some h → fits_with hs h ≡ false → year_from hs (line ∷ lines) ≡ Refused OVERFLOW
+    line_in line ≡ Some h → fits_with hs h ≡ false → year_from hs (line ∷ lines) ≡ Refused Refusals.Overflow
 unfolding year_from
 overflows hs line lines h room says over = rw (room, says, over)
 
 pub one_more : (hs : List Held) (line : List ℕ) (lines : List (List ℕ)) (h : Held) → ltb (length hs) 100_000 ≡ true →
-    line_in line ≡ some h → fits_with hs h ≡ true → year_from hs (line ∷ lines) ≡ year_from (hs ++ (h ∷ [])) lines
+    line_in line ≡ Some h → fits_with hs h ≡ true → year_from hs (line ∷ lines) ≡ year_from (hs ++ (h ∷ [])) lines
 unfolding year_from
 one_more hs line lines h room says fits = rw (room, says, fits)

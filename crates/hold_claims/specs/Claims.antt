@@ -2,8 +2,9 @@
 -- `claims` of proofs/Claims proves all of it, for every text.
 -- Assumes nothing.
 use Rattle.std.specs.Prelude.{ℕ, ◌<◌, ◌≤◌, ◌≡◌, ◌≢◌, true, false, List, [], ◌∷◌, ◌++◌, ℤ, pos, negsuc, ◌+ℤ◌, ◌*ℤ◌, length}
-use Rattle.std.proofs.Math.Option.{none, some}
+use Rattle.std.specs.Prelude.{None, Some}
 use Rattle.std.specs.Int.Signed.{lt_z}
+use Rattle.refusals.specs.declared.Refusal.TheVariants as Refusals
 use Rattle.lent.specs.Listed.{listed}
 use Rattle.texts.specs.Letters.{bytes_of}
 use Rattle.texts.specs.Numerals.{decimal_of, signed_text}
@@ -26,7 +27,7 @@ pub data AmongHolds (z : ℤ) : List ℤ → Type 0 where
 -- Lines that say these things, each in turn.
 pub data SayThese : List (List ℕ) → List Held → Type 0 where
   NoMore : SayThese [] []
-  And : (line : List ℕ) (lines : List (List ℕ)) (h : Held) (hs : List Held) → line_in line ≡ some h → SayThese lines hs →
+  And : (line : List ℕ) (lines : List (List ℕ)) (h : Held) (hs : List Held) → line_in line ≡ Some h → SayThese lines hs →
       SayThese (line ∷ lines) (h ∷ hs)
 
 -- Two years that are the same but for lines of one crew, of which either may have more, fewer or others.
@@ -48,21 +49,21 @@ pub record RefusedAt (text : List ℕ) : Type 0 where
 -- It is the 100,001st, or malformed.
 pub data BadLine (text : List ℕ) (r : RefusedAt text) : Type 0 where
   TooMany : length r.before ≡ 100_000 → BadLine text r
-  Malformed : line_in r.line ≡ none → BadLine text r
+  Malformed : line_in r.line ≡ None → BadLine text r
 
 -- It is a line within the 100,000, and with it its crew's total leaves 64 bits.
 pub record Overflows (text : List ℕ) (r : RefusedAt text) : Type 0 where
   pub in_number : length r.before < 100_000
   pub held : Held
-  pub says : line_in r.line ≡ some held
+  pub says : line_in r.line ≡ Some held
   pub leaves : is_signed64 (total_of (holds_of held.crew (r.read ++ (held ∷ [])))) ≡ false
 
 -- A text is taken whole, or refused at its first line that is bad, or with which a total leaves 64 bits; of one line the first
 -- of the two decides (RULES 21.5, 21.6).
 pub data Decided (text : List ℕ) : Type 0 where
   AllTaken : (hs : List Held) → year_in text ≡ Taken hs → length hs ≤ 100_000 → SayThese (lines_in text) hs → Decided text
-  ByLine : (r : RefusedAt text) → BadLine text r → year_in text ≡ Refused 14 → Decided text
-  ByTotal : (r : RefusedAt text) → Overflows text r → year_in text ≡ Refused 15 → Decided text
+  ByLine : (r : RefusedAt text) → BadLine text r → year_in text ≡ Refused Refusals.Line → Decided text
+  ByTotal : (r : RefusedAt text) → Overflows text r → year_in text ≡ Refused Refusals.Overflow → Decided text
 
 -- What holds of a crew with rounds: z is its first hold, zs are those that follow.
 pub record RowClaims (z : ℤ) (zs : List ℤ) : Type 0 where
@@ -108,14 +109,14 @@ pub record Examples : Type 0 where
       year_in (bytes_of "0 1 5\n63 0 -7\n0 4294967295 -8") ≡
       Taken
       (record { crew = 0; hold = pos 5 } ∷ record { crew = 63; hold = negsuc 6 } ∷ record { crew = 0; hold = negsuc 7 } ∷ [])
-  pub a_bad_line : year_in (bytes_of "0 1 5\n64 0 -7\n") ≡ Refused 14
-  pub a_total_too_low : year_in (bytes_of "0 1 -9223372036854775808\n0 0 -1\n\n") ≡ Refused 15
+  pub a_bad_line : year_in (bytes_of "0 1 5\n64 0 -7\n") ≡ Refused Refusals.Line
+  pub a_total_too_low : year_in (bytes_of "0 1 -9223372036854775808\n0 0 -1\n\n") ≡ Refused Refusals.Overflow
 
 pub record Claims : Type 0 where
   pub decided : (text : List ℕ) → Decided text
   -- And whichever line of a text is so, all before it taken, the text is refused by it.
-  pub refused_14 : (text : List ℕ) (r : RefusedAt text) → BadLine text r → year_in text ≡ Refused 14
-  pub refused_15 : (text : List ℕ) (r : RefusedAt text) → Overflows text r → year_in text ≡ Refused 15
+  pub refused_14 : (text : List ℕ) (r : RefusedAt text) → BadLine text r → year_in text ≡ Refused Refusals.Line
+  pub refused_15 : (text : List ℕ) (r : RefusedAt text) → Overflows text r → year_in text ≡ Refused Refusals.Overflow
   pub of_a_year : (text : List ℕ) (hs : List Held) → year_in text ≡ Taken hs → YearClaims hs
   pub of_a_crew : (z : ℤ) (zs : List ℤ) → RowClaims z zs
   pub examples : Examples

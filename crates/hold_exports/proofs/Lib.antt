@@ -1,4 +1,3 @@
-mod Words
 pub mod Places
 pub mod Calls
 pub mod Turns

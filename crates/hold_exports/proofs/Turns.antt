@@ -6,6 +6,7 @@ use mathlib.Core.Bool.{false}
 use mathlib.Core.List.{List, [], ◌∷◌, ◌++◌}
 use borrow.Author.Tests.{le-leb}
 use native.Mathlib.Omega.{arith}
+use Rattle.std.proofs.Common.{Some}
 use lib.ListN.{length, take, replicate, length-append, length-replicate}
 use lib.Seq.{take-append_seam}
 use Rattle.lent.specs.Outcome.{Gives, room_of}
@@ -14,7 +15,6 @@ use Rattle.hold_year.specs.Parts.{Going, On, Over, begun, is_broken, going_on, f
 use Rattle.hold_year.specs.declared.year.Reading.{Reading}
 use Rattle.hold_year.proofs.Cut.{cut_anyhow}
 use Rattle.hold_year.proofs.Steady.{Holds, fed_long, fed_whole}
-use Rattle.hold_exports.specs.declared.kept.Kept.TheVariants.{Of}
 use Rattle.hold_exports.specs.Memory.{
   memory_words,
   reading_in,
@@ -34,7 +34,7 @@ unfolding memory_words
 memory_long s words long = omega arith
 
 pub memory_kept : (s : Reading) (words rest : List ℕ) → is_broken s.place ≡ false → length words ≡ 192 →
-    reading_in (memory_words s words ++ rest) ≡ Of s
+    reading_in (memory_words s words ++ rest) ≡ Some s
 unfolding reading_in memory_words
 memory_kept s words rest whole long =
     rw (
@@ -80,7 +80,7 @@ module _ (room : ℕ) (enough : 197 ≤ room) where
           behind_call (kept_going g) room (λ left. answered_in_turn left parts) ≡
           answer_after (going_on g (λ t left. fed_parts t left parts))
       by (On t left) w l rest = ap (λ memory. answered_in_turn memory parts) (left_kept t left l) ∙ rest t left w l
-      by (Over n) w l rest = refl
+      by (Over why) w l rest = refl
 
 pub year_in_memory : YearInMemory
 unfolding begun_memory begun

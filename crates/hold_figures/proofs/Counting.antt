@@ -1,14 +1,14 @@
 -- Counting a round in the crews' words is counting it among the lines: `tallied` of the words of some lines is the words of those
 -- lines and one more, or the refusal of the total.
 -- Assumes nothing.
-use Rattle.std.proofs.Common.{◌≡◌, ℕ, ◌+◌, ◌*◌, ◌<◌, ◌≤◌, max, Bool, true, false, cond, List, [], ◌∷◌, ◌++◌, length, get_or, replicate, ℤ, ◌+ℤ◌, sym, refl, ap, ◌∙◌, subst, add-zero, zero-add, arith, length-append}
+use Rattle.std.proofs.Common.{Some, None, ◌≡◌, ℕ, ◌+◌, ◌*◌, ◌<◌, ◌≤◌, max, Bool, true, false, cond, List, [], ◌∷◌, ◌++◌, length, get_or, replicate, ℤ, ◌+ℤ◌, sym, refl, ap, ◌∙◌, subst, add-zero, zero-add, arith, length-append}
 use lib.IntN.{+ℤ_idr}
+use Rattle.refusals.specs.declared.Refusal.TheVariants as Refusals
 use Rattle.lent.specs.Listed.{listed}
 use Rattle.lent.specs.Rows.{words_in}
 use Rattle.hold_lines.specs.Text.{Held, raised_of}
 use Rattle.hold_figures.specs.Crews.{holds_of, total_of, largest_of, is_signed64}
 use Rattle.hold_figures.specs.Words.{crew_words, figures_of, raised_sum, with_crew, Tally, Grown, Stopped, grown_by, tallied}
-use Rattle.hold_figures.specs.declared.figures.Sum.TheVariants.{Of, Over}
 use Rattle.hold_figures.proofs.Raised.{raised_sum_law, raised_larger}
 use Rattle.hold_figures.proofs.Tallying.{tallied_first, tallied_more}
 use Rattle.hold_figures.proofs.Threes.{three_read, three_put}
@@ -62,7 +62,7 @@ module _ (hs : List Held) (h : Held) (low : h.crew ≤ 63) where
 
   -- The words with the round counted, or the refusal of the total.
   abbrev counted : ℤ → Tally
-  counted total = cond (is_signed64 total) (Grown (figures_of (hs ++ (h ∷ [])))) (Stopped 15)
+  counted total = cond (is_signed64 total) (Grown (figures_of (hs ++ (h ∷ [])))) (Stopped Refusals.Overflow)
 
   -- A crew's first round.
   counted_first : is_signed64 h.hold ≡ true → holds_of h.crew hs ≡ [] →
@@ -98,8 +98,8 @@ module _ (hs : List Held) (h : Held) (low : h.crew ≤ 63) where
 
   -- Where the total stays within 64 bits the words grow, and else it is refused.
   grown_more : (t : Bool) (y : ℤ) (ys : List ℤ) → holds_of h.crew hs ≡ y ∷ ys →
-      grown_by words h.crew hold (cond t (Of (raised_of (total_of (y ∷ ys) +ℤ h.hold))) Over) ≡
-      cond t (Grown (figures_of (hs ++ (h ∷ [])))) (Stopped 15)
+      grown_by words h.crew hold (cond t (Some (raised_of (total_of (y ∷ ys) +ℤ h.hold))) None) ≡
+      cond t (Grown (figures_of (hs ++ (h ∷ [])))) (Stopped Refusals.Overflow)
   grown_more true y ys e =
       let count : ℕ = get_or words (3 * h.crew) 0 + 1 in
       ap Grown
@@ -120,7 +120,7 @@ module _ (hs : List Held) (h : Held) (low : h.crew ≤ 63) where
       subst (λ (zs : List ℤ). length zs ≤ length hs) e (holds_few h.crew hs)
       in
       let sum : raised_sum (get_or words (3 * h.crew + 1) 0) hold ≡
-      cond (is_signed64 (total +ℤ h.hold)) (Of (raised_of (total +ℤ h.hold))) Over =
+      cond (is_signed64 (total +ℤ h.hold)) (Some (raised_of (total +ℤ h.hold))) None =
       ap (λ (w : ℕ). raised_sum w hold) (figures_read hs h.crew 1 (y ∷ ys) e low (omega arith)) ∙
       raised_sum_law total h.hold (subst (λ (zs : List ℤ). is_signed64 (total_of zs) ≡ true) e fits) signed
       in
@@ -132,11 +132,13 @@ module _ (hs : List Held) (h : Held) (low : h.crew ≤ 63) where
 pub counted_round : (hs : List Held) (h : Held) → Sound hs → length hs < 100_000 → h.crew ≤ 63 →
     is_signed64 h.hold ≡ true →
     tallied (figures_of hs) h.crew (raised_of h.hold) ≡
-    cond (is_signed64 (total_of (holds_of h.crew (hs ++ (h ∷ []))))) (Grown (figures_of (hs ++ (h ∷ [])))) (Stopped 15)
+    cond (is_signed64 (total_of (holds_of h.crew (hs ++ (h ∷ [])))))
+    (Grown (figures_of (hs ++ (h ∷ []))))
+    (Stopped Refusals.Overflow)
 counted_round hs h sound few low signed = rw (holds_own hs h) (by (holds_of h.crew hs) refl)
   where
     by : (zs : List ℤ) → holds_of h.crew hs ≡ zs →
         tallied (figures_of hs) h.crew (raised_of h.hold) ≡
-        cond (is_signed64 (total_of (zs ++ (h.hold ∷ [])))) (Grown (figures_of (hs ++ (h ∷ [])))) (Stopped 15)
+        cond (is_signed64 (total_of (zs ++ (h.hold ∷ [])))) (Grown (figures_of (hs ++ (h ∷ [])))) (Stopped Refusals.Overflow)
     by [] e = counted_first hs h low signed e
     by (y ∷ ys) e = counted_more hs h low signed (sound.totals h.crew) few y ys e

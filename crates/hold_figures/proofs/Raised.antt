@@ -1,26 +1,25 @@
 -- Signed numbers of 64 bits raised by 2^63: their sums and their order are those of the numbers.
 -- Assumes nothing.
-use Rattle.std.proofs.Common.{◌≡◌, ℕ, suc, ◌+◌, ◌-◌, ◌^◌, ◌<◌, ◌≤◌, max, Bool, true, false, cond, ltb, ℤ, pos, negsuc, ◌+ℤ◌, refl, arith, ltb-false, ltb-true, le-ltb, lt-ltb, le-leb}
+use Rattle.std.proofs.Common.{Some, None, ◌≡◌, ℕ, suc, ◌+◌, ◌-◌, ◌^◌, ◌<◌, ◌≤◌, max, Bool, true, false, cond, ltb, ℤ, pos, negsuc, ◌+ℤ◌, refl, arith, ltb-false, ltb-true, le-ltb, lt-ltb, le-leb}
 use borrow.Author.Tests.{lt-leb}
 use lib.IntN.{sub_ℕ}
 use lib.Signed.{lt_z}
 use Rattle.hold_lines.specs.Text.{raised_of}
 use Rattle.hold_figures.specs.Crews.{is_signed64}
 use Rattle.hold_figures.specs.Words.{raised_sum}
-use Rattle.hold_figures.specs.declared.figures.Sum.TheVariants.{Of, Over}
 
 -- ---- The three cases of a sum.
 
-pub sum_under : (x y : ℕ) → x + y < 2 ^ 63 → raised_sum x y ≡ Over
+pub sum_under : (x y : ℕ) → x + y < 2 ^ 63 → raised_sum x y ≡ None
 unfolding raised_sum
 sum_under x y h = rw (lt-leb (2 ^ 63) (x + y) h)
 
-pub sum_over : (x y : ℕ) → 2 ^ 63 + 2 ^ 64 ≤ x + y → raised_sum x y ≡ Over
+pub sum_over : (x y : ℕ) → 2 ^ 63 + 2 ^ 64 ≤ x + y → raised_sum x y ≡ None
 unfolding raised_sum
 sum_over x y h = rw (le-leb (2 ^ 63) (x + y) (omega arith), le-ltb (x + y) (2 ^ 63 + 2 ^ 64) h)
 
 -- The sum that both make, raised once.
-pub sum_of : (x y z : ℕ) → x + y ≡ 2 ^ 63 + z → z < 2 ^ 64 → raised_sum x y ≡ Of z
+pub sum_of : (x y z : ℕ) → x + y ≡ 2 ^ 63 + z → z < 2 ^ 64 → raised_sum x y ≡ Some z
 unfolding raised_sum
 sum_of x y z e h =
     let once : x + y - 2 ^ 63 ≡ z = omega arith in
@@ -30,7 +29,7 @@ sum_of x y z e h =
 
 -- Of numbers of two signs the sum is never too large or too small.
 mixed_sum : (a b x y : ℕ) → a < 2 ^ 63 → b < 2 ^ 63 → x + y ≡ 2 ^ 63 + a + (2 ^ 63 - suc b) →
-    raised_sum x y ≡ cond (is_signed64 (sub_ℕ a (suc b))) (Of (raised_of (sub_ℕ a (suc b)))) Over
+    raised_sum x y ≡ cond (is_signed64 (sub_ℕ a (suc b))) (Some (raised_of (sub_ℕ a (suc b)))) None
 unfolding is_signed64 raised_of
 mixed_sum a b x y fa fb e = by (ltb a (suc b)) refl
   where
@@ -38,8 +37,8 @@ mixed_sum a b x y fa fb e = by (ltb a (suc b)) refl
         raised_sum x y ≡
         cond
         (is_signed64 (cond t (negsuc (suc b - suc a)) (pos (a - suc b))))
-        (Of (raised_of (cond t (negsuc (suc b - suc a)) (pos (a - suc b)))))
-        Over
+        (Some (raised_of (cond t (negsuc (suc b - suc a)) (pos (a - suc b)))))
+        None
     by true l =
         let less = ltb-true a (suc b) l in
         rw (lt-ltb (suc b - suc a) (2 ^ 63) (omega arith))
@@ -50,11 +49,11 @@ mixed_sum a b x y fa fb e = by (ltb a (suc b)) refl
 
 -- The sum of two raised numbers is the sum of the numbers, raised, where that is a signed number of 64 bits.
 pub raised_sum_law : (a b : ℤ) → is_signed64 a ≡ true → is_signed64 b ≡ true →
-    raised_sum (raised_of a) (raised_of b) ≡ cond (is_signed64 (a +ℤ b)) (Of (raised_of (a +ℤ b))) Over
+    raised_sum (raised_of a) (raised_of b) ≡ cond (is_signed64 (a +ℤ b)) (Some (raised_of (a +ℤ b))) None
 unfolding is_signed64 raised_of
 raised_sum_law (pos a) (pos b) fa fb = by (ltb (a + b) (2 ^ 63)) refl
   where
-    by : (t : Bool) → ltb (a + b) (2 ^ 63) ≡ t → raised_sum (2 ^ 63 + a) (2 ^ 63 + b) ≡ cond t (Of (2 ^ 63 + (a + b))) Over
+    by : (t : Bool) → ltb (a + b) (2 ^ 63) ≡ t → raised_sum (2 ^ 63 + a) (2 ^ 63 + b) ≡ cond t (Some (2 ^ 63 + (a + b))) None
     by true e =
         let low = ltb-true (a + b) (2 ^ 63) e in
         sum_of (2 ^ 63 + a) (2 ^ 63 + b) (2 ^ 63 + (a + b)) (omega arith) (omega arith)
@@ -72,7 +71,7 @@ raised_sum_law (negsuc a) (negsuc b) fa fb = by (ltb (suc (a + b)) (2 ^ 63)) ref
     below_b = ltb-true b (2 ^ 63) fb
 
     by : (t : Bool) → ltb (suc (a + b)) (2 ^ 63) ≡ t →
-        raised_sum (2 ^ 63 - suc a) (2 ^ 63 - suc b) ≡ cond t (Of (2 ^ 63 - suc (suc (a + b)))) Over
+        raised_sum (2 ^ 63 - suc a) (2 ^ 63 - suc b) ≡ cond t (Some (2 ^ 63 - suc (suc (a + b)))) None
     by true e =
         let low = ltb-true (suc (a + b)) (2 ^ 63) e in
         sum_of (2 ^ 63 - suc a) (2 ^ 63 - suc b) (2 ^ 63 - suc (suc (a + b))) (omega arith) (omega arith)

@@ -1,38 +1,16 @@
--- The cases of a tally, each from the tests that lead to it, and what is promised in each.
+-- The cases of a tally in which a round is counted, each from the tests that lead to it.
 -- Assumes nothing.
-use Rattle.std.proofs.Common.{◌≡◌, ℕ, ◌+◌, ◌*◌, ◌<◌, ◌≤◌, List, get_or, sym, ap, le-ltb, lt-ltb, eq-eqb, ne_eqb, le-leb}
-use borrow.Author.Tests.{lt-leb}
-use Rattle.hold_figures.specs.Words.{raised_sum, with_crew, tallied, CountsRound}
-use Rattle.hold_figures.specs.Words.{Grown, Stopped, grown_by, counted_by, words_after}
-use Rattle.hold_figures.specs.declared.figures.Counted.TheVariants.{Fine, Refused}
+use Rattle.std.proofs.Common.{◌≡◌, ℕ, ◌+◌, ◌*◌, ◌<◌, ◌≤◌, List, get_or, lt-ltb, eq-eqb, ne_eqb, le-leb}
+use Rattle.hold_figures.specs.Words.{raised_sum, with_crew, tallied}
+use Rattle.hold_figures.specs.Words.{Grown, grown_by}
 
 module _ (words : List ℕ) (crew hold : ℕ) where
-  pub tallied_past : 63 < crew → tallied words crew hold ≡ Stopped 14
-  unfolding tallied
-  tallied_past h = rw (lt-leb crew 63 h)
-
   pub tallied_first : crew ≤ 63 → get_or words (3 * crew) 0 ≡ 0 → tallied words crew hold ≡ Grown (with_crew words crew 1 hold hold)
   unfolding tallied
   tallied_first h e = rw (le-leb crew 63 h, eq-eqb (get_or words (3 * crew) 0) 0 e)
-
-  pub tallied_full : crew ≤ 63 → ¬ (get_or words (3 * crew) 0 ≡ 0) → 100_000 ≤ get_or words (3 * crew) 0 →
-      tallied words crew hold ≡ Stopped 14
-  unfolding tallied
-  tallied_full h e m =
-      rw (le-leb crew 63 h, ne_eqb (get_or words (3 * crew) 0) 0 e, le-ltb (get_or words (3 * crew) 0) 100_000 m)
 
   pub tallied_more : crew ≤ 63 → ¬ (get_or words (3 * crew) 0 ≡ 0) → get_or words (3 * crew) 0 < 100_000 →
       tallied words crew hold ≡ grown_by words crew hold (raised_sum (get_or words (3 * crew + 1) 0) hold)
   unfolding tallied
   tallied_more h e m =
       rw (le-leb crew 63 h, ne_eqb (get_or words (3 * crew) 0) 0 e, lt-ltb (get_or words (3 * crew) 0) 100_000 m)
-
-pub counts_grown : {lent left : List ℕ} {crew hold : ℕ} →
-    tallied lent crew hold ≡ Grown left → CountsRound crew hold lent left Fine
-counts_grown {lent} e =
-    record { answer = sym (ap counted_by e); words = sym (ap (λ t. words_after t lent) e) }
-
-pub counts_stopped : {lent : List ℕ} {crew hold n : ℕ} →
-    tallied lent crew hold ≡ Stopped n → CountsRound crew hold lent lent (Refused n)
-counts_stopped {lent} e =
-    record { answer = sym (ap counted_by e); words = sym (ap (λ t. words_after t lent) e) }

@@ -1,5 +1,4 @@
 mod Digits
-mod Else
 mod Numbers
 pub mod Line
 pub mod Examples

@@ -4,7 +4,8 @@ use Prim.Native.Nat.{ℕ, zero, suc, ◌-◌, ◌^◌, ◌≤◌, ◌<◌}
 use mathlib.Core.Path.{◌≡◌, refl, sym, ◌∙◌}
 use mathlib.Core.Bool.{Bool, true, false, cond, not, ◌&&◌, and-false}
 use mathlib.Core.List.{List, [], ◌∷◌}
-use mathlib.Core.Option.{Option, none, some}
+use Rattle.std.proofs.Common.{Option, None, Some}
+use Rattle.std.specs.Option.{option_and_then}
 use native.Mathlib.Omega.{arith}
 use borrow.Author.Tests.{eqb-true}
 use lib.Dec.{leb, eqb, eqb-suc-zero}
@@ -28,12 +29,9 @@ use Rattle.hold_lines.specs.Text.{
 use Rattle.hold_lines.specs.Place.{first_digit, next_digit, stepped, stepped_by, closed, with_digits, size_from, line_held}
 use Rattle.hold_lines.specs.declared.place.Place.{Place}
 use Rattle.hold_lines.specs.declared.place.Place.TheVariants as P
-use Rattle.hold_lines.specs.declared.place.Digits.{Digits}
-use Rattle.hold_lines.specs.declared.place.Digits.TheVariants.{Of, Wrong}
 use Rattle.hold_lines.specs.declared.place.Line.{Line}
-use Rattle.hold_lines.specs.declared.place.Line.TheVariants as L
 use Rattle.hold_lines.proofs.Digits.{digit_small}
-use Rattle.hold_lines.proofs.Numbers.{after_digits, number_on, number_begins, reads_up, tested_each}
+use Rattle.hold_lines.proofs.Numbers.{number_on, number_begins, reads_up, tested_each}
 
 -- A line that is broken stays so, whatever follows.
 pub broken_stays : (bs : List ℕ) → stepped_by P.Broken bs ≡ P.Broken
@@ -44,31 +42,31 @@ broken_stays (b ∷ bs) = broken_stays bs
 -- ---- What the pieces at the spaces of the rest say.
 
 -- Behind the hold nothing may stand.
-abbrev ends_with : ℕ → Option ℤ → List (List ℕ) → Line
-ends_with crew none pieces = L.Broken
-ends_with crew (some hold) [] = L.Hold crew (raised_of hold)
-ends_with crew (some hold) (piece ∷ pieces) = L.Broken
+abbrev ends_with : ℕ → Option ℤ → List (List ℕ) → Option Line
+ends_with crew None pieces = None
+ends_with crew (Some hold) [] = Some (record { crew = crew; raised = raised_of hold })
+ends_with crew (Some hold) (piece ∷ pieces) = None
 
 -- The same, of a number that was read to its end.
-abbrev ends_at : (ℕ → Place) → Option ℕ → List (List ℕ) → Line
-ends_at place none pieces = L.Broken
-ends_at place (some n) [] = closed (place n)
-ends_at place (some n) (piece ∷ pieces) = L.Broken
+abbrev ends_at : (ℕ → Place) → Option ℕ → List (List ℕ) → Option Line
+ends_at place None pieces = None
+ends_at place (Some n) [] = closed (place n)
+ends_at place (Some n) (piece ∷ pieces) = None
 
 -- Behind the round stands the hold.
-abbrev behind_round : ℕ → Option ℕ → List (List ℕ) → Line
-behind_round crew none pieces = L.Broken
-behind_round crew (some round) [] = L.Broken
-behind_round crew (some round) (piece ∷ pieces) = ends_with crew (hold_in piece) pieces
+abbrev behind_round : ℕ → Option ℕ → List (List ℕ) → Option Line
+behind_round crew None pieces = None
+behind_round crew (Some round) [] = None
+behind_round crew (Some round) (piece ∷ pieces) = ends_with crew (hold_in piece) pieces
 
 -- Behind the crew stands the round.
-abbrev behind_crew : Option ℕ → List (List ℕ) → Line
-behind_crew none pieces = L.Broken
-behind_crew (some crew) [] = L.Broken
-behind_crew (some crew) (piece ∷ pieces) = behind_round crew (number_up_to (2 ^ 32 - 1) piece) pieces
+abbrev behind_crew : Option ℕ → List (List ℕ) → Option Line
+behind_crew None pieces = None
+behind_crew (Some crew) [] = None
+behind_crew (Some crew) (piece ∷ pieces) = behind_round crew (number_up_to (2 ^ 32 - 1) piece) pieces
 
 -- The line, at a place, by the rest of the piece in which it is and by those behind it.
-unfoldable rest_of : Place → List ℕ → List (List ℕ) → Line
+unfoldable rest_of : Place → List ℕ → List (List ℕ) → Option Line
 rest_of P.Start piece pieces = behind_crew (number_up_to 63 piece) pieces
 rest_of (P.Crew n) piece pieces = behind_crew (number_on 63 n piece) pieces
 rest_of (P.BeforeRound crew) piece pieces = behind_round crew (number_up_to (2 ^ 32 - 1) piece) pieces
@@ -77,7 +75,7 @@ rest_of (P.BeforeHold crew) piece pieces = ends_with crew (hold_in piece) pieces
 rest_of (P.BeforeSize crew) piece pieces = ends_with crew (below_zero (number_up_to (2 ^ 63) piece)) pieces
 rest_of (P.Hold crew n) piece pieces = ends_at (P.Hold crew) (number_on (2 ^ 63 - 1) n piece) pieces
 rest_of (P.Below crew n) piece pieces = ends_at (P.Below crew) (number_on (2 ^ 63) n piece) pieces
-rest_of P.Broken piece pieces = L.Broken
+rest_of P.Broken piece pieces = None
 
 -- ---- A number as a hold.
 
@@ -88,7 +86,7 @@ unfolding number_up_to closed raised_of
 hold_ends crew ds = by (is_decimal ds) (leb (numeral_read 10 ds) (2 ^ 63 - 1)) refl
   where
     by : (t u : Bool) → leb (numeral_read 10 ds) (2 ^ 63 - 1) ≡ u → (pieces : List (List ℕ)) →
-        let read = cond (t && u) (some (numeral_read 10 ds)) none in
+        let read = cond (t && u) (Some (numeral_read 10 ds)) None in
         ends_with crew (from_zero read) pieces ≡ ends_at (P.Hold crew) read pieces
     by false u e pieces = refl
     by true false e pieces = refl
@@ -107,7 +105,7 @@ size_ends crew (suc k) ds pieces small =
     (by (every is_digit ds) size (omega (arith, reads_up (suc k) ds)) (leb size (2 ^ 63)) refl pieces)
   where
     by : (t : Bool) (size : ℕ) → 0 < size → (u : Bool) → leb size (2 ^ 63) ≡ u → (pieces : List (List ℕ)) →
-        let read = cond (t && u) (some size) none in
+        let read = cond (t && u) (Some size) None in
         ends_with crew (below_zero read) pieces ≡ ends_at (P.Below crew) read pieces
     by false size h u e pieces = refl
     by true size h false e pieces = refl
@@ -132,12 +130,12 @@ at_space (P.Below crew n) piece pieces = rw (and-false (not (eqb n 0)))
 at_space P.Broken piece pieces = refl
 
 -- A number that goes on with what a digit makes.
-after_digit : (d : Digits) (most : ℕ) (piece : List ℕ) (pieces : List (List ℕ)) (says : Option ℕ → Line) (place : ℕ → Place) →
-    says none ≡ L.Broken → ((n : ℕ) → d ≡ Of n → says (number_on most n piece) ≡ rest_of (place n) piece pieces) →
-    says (after_digits d (λ n. number_on most n piece)) ≡ rest_of (with_digits d place) piece pieces
+after_digit : (d : Option ℕ) (most : ℕ) (piece : List ℕ) (pieces : List (List ℕ)) (says : Option ℕ → Option Line) (place : ℕ → Place) →
+    says None ≡ None → ((n : ℕ) → d ≡ Some n → says (number_on most n piece) ≡ rest_of (place n) piece pieces) →
+    says (option_and_then (λ n. number_on most n piece) d) ≡ rest_of (with_digits d place) piece pieces
 unfolding rest_of
-after_digit (Of n) most piece pieces says place broken on = on n refl
-after_digit Wrong most piece pieces says place broken on = broken
+after_digit (Some n) most piece pieces says place broken on = on n refl
+after_digit None most piece pieces says place broken on = broken
 
 -- Any other byte belongs to the number.
 in_piece : (p : Place) (b : ℕ) (piece : List ℕ) (pieces : List (List ℕ)) → eqb b 32 ≡ false →
@@ -178,8 +176,8 @@ in_piece P.Broken b piece pieces other = refl
 -- ---- The line.
 
 -- The line, at a place, by the pieces of the rest.
-rest_in : Place → List (List ℕ) → Line
-rest_in p [] = L.Broken
+rest_in : Place → List (List ℕ) → Option Line
+rest_in p [] = None
 rest_in p (piece ∷ pieces) = rest_of p piece pieces
 
 longer_some : (b : ℕ) (pieces : List (List ℕ)) → 0 < length (longer_first b pieces)
@@ -233,33 +231,33 @@ unfolding rest_in rest_of
 fields_read [] = refl
 fields_read (crew ∷ []) = by (number_up_to 63 crew)
   where
-    by : (c : Option ℕ) → behind_crew c [] ≡ L.Broken
-    by none = refl
-    by (some c) = refl
+    by : (c : Option ℕ) → behind_crew c [] ≡ None
+    by None = refl
+    by (Some c) = refl
 fields_read (crew ∷ round ∷ []) = by (number_up_to 63 crew) (number_up_to (2 ^ 32 - 1) round) refl
   where
-    by : (c r : Option ℕ) → number_up_to (2 ^ 32 - 1) round ≡ r → behind_crew c (round ∷ []) ≡ L.Broken
-    by none r e = refl
-    by (some c) none e = rw e
-    by (some c) (some r) e = rw e
+    by : (c r : Option ℕ) → number_up_to (2 ^ 32 - 1) round ≡ r → behind_crew c (round ∷ []) ≡ None
+    by None r e = refl
+    by (Some c) None e = rw e
+    by (Some c) (Some r) e = rw e
 fields_read (crew ∷ round ∷ hold ∷ []) =
     by (number_up_to 63 crew) (number_up_to (2 ^ 32 - 1) round) refl (hold_in hold) refl
   where
     by : (c r : Option ℕ) → number_up_to (2 ^ 32 - 1) round ≡ r → (h : Option ℤ) → hold_in hold ≡ h →
         behind_crew c (round ∷ hold ∷ []) ≡ line_held (all_three c r h)
-    by none r e h f = refl
-    by (some c) none e h f = rw e
-    by (some c) (some r) e none f = rw (e, f)
-    by (some c) (some r) e (some h) f = rw (e, f)
+    by None r e h f = refl
+    by (Some c) None e h f = rw e
+    by (Some c) (Some r) e None f = rw (e, f)
+    by (Some c) (Some r) e (Some h) f = rw (e, f)
 fields_read (crew ∷ round ∷ hold ∷ next ∷ more) =
     by (number_up_to 63 crew) (number_up_to (2 ^ 32 - 1) round) refl (hold_in hold) refl
   where
     by : (c r : Option ℕ) → number_up_to (2 ^ 32 - 1) round ≡ r → (h : Option ℤ) → hold_in hold ≡ h →
-        behind_crew c (round ∷ hold ∷ next ∷ more) ≡ L.Broken
-    by none r e h f = refl
-    by (some c) none e h f = rw e
-    by (some c) (some r) e none f = rw (e, f)
-    by (some c) (some r) e (some h) f = rw (e, f)
+        behind_crew c (round ∷ hold ∷ next ∷ more) ≡ None
+    by None r e h f = refl
+    by (Some c) None e h f = rw e
+    by (Some c) (Some r) e None f = rw (e, f)
+    by (Some c) (Some r) e (Some h) f = rw (e, f)
 
 -- A line read byte by byte is what it says.
 pub line_read : (bs : List ℕ) → closed (stepped_by P.Start bs) ≡ line_held (line_in bs)

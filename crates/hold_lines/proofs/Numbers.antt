@@ -4,7 +4,8 @@ use Prim.Native.Nat.{ℕ, ◌+◌, ◌-◌, ◌*◌, ◌≤◌, ◌<◌}
 use mathlib.Core.Path.{◌≡◌, refl, sym, ap}
 use mathlib.Core.Bool.{Bool, true, false, cond, ◌&&◌, and-false}
 use mathlib.Core.List.{List, [], ◌∷◌}
-use mathlib.Core.Option.{Option, none, some}
+use Rattle.std.proofs.Common.{Option, None, Some}
+use Rattle.std.specs.Option.{option_and_then}
 use native.Mathlib.Omega.{arith}
 use borrow.Author.Tests.{lt-ltb, le-leb, lt-leb, leb-true, leb-false, eqb-true, eqb-false, ne_eqb}
 use lib.Dec.{leb, eqb}
@@ -12,19 +13,12 @@ use Rattle.lent.specs.Listed.{every}
 use Rattle.texts.specs.Reading.{is_digit, count_of, read_from, numeral_read}
 use Rattle.hold_lines.specs.Text.{is_decimal, number_up_to}
 use Rattle.hold_lines.specs.Place.{first_digit, next_digit}
-use Rattle.hold_lines.specs.declared.place.Digits.{Digits}
-use Rattle.hold_lines.specs.declared.place.Digits.TheVariants.{Of, Wrong}
 use Rattle.hold_lines.proofs.Digits.{digit_bounds}
-
--- Goes on with what the digits make.
-abbrev pub after_digits : Digits → (ℕ → Option ℕ) → Option ℕ
-after_digits (Of n) go = go n
-after_digits Wrong go = none
 
 -- The number that bytes make behind digits that made n, where each of them may stand.
 unfoldable pub number_on : ℕ → ℕ → List ℕ → Option ℕ
-number_on most n [] = some n
-number_on most n (b ∷ bs) = after_digits (next_digit most n b) (λ m. number_on most m bs)
+number_on most n [] = Some n
+number_on most n (b ∷ bs) = option_and_then (λ m. number_on most m bs) (next_digit most n b)
 
 digit_count : (b : ℕ) → is_digit b ≡ true → count_of b ≡ b - 48
 unfolding count_of
@@ -38,7 +32,7 @@ reads_up n (d ∷ ds) = omega (arith, reads_up (n * 10 + count_of d) ds)
 
 -- The number of digits behind those that made n, tested at the end.
 abbrev pub tested_last : ℕ → ℕ → List ℕ → Option ℕ
-tested_last most n ds = cond (every is_digit ds && leb (read_from 10 n ds) most) (some (read_from 10 n ds)) none
+tested_last most n ds = cond (every is_digit ds && leb (read_from 10 n ds) most) (Some (read_from 10 n ds)) None
 
 pub tested_each : (most n : ℕ) (ds : List ℕ) → 0 < n → n ≤ most → number_on most n ds ≡ tested_last most n ds
 unfolding number_on next_digit every read_from
@@ -57,7 +51,7 @@ tested_each most n (b ∷ bs) some-n h =
     by true e false f rest =
         let above : most < read_from 10 m bs = omega (arith, reads_up m bs, leb-false m most f) in
         rw (ne_eqb n 0 (λ z. omega (arith, some-n, z)), e, digit_count b e, f, lt-leb (read_from 10 m bs) most above)
-        (sym (ap (λ (t : Bool). cond t (some (read_from 10 m bs)) none) (and-false (every is_digit bs))))
+        (sym (ap (λ (t : Bool). cond t (Some (read_from 10 m bs)) None) (and-false (every is_digit bs))))
 
 -- A single digit makes what it counts.
 first_count : (b : ℕ) → is_digit b ≡ true → 0 * 10 + count_of b ≡ b - 48
@@ -65,11 +59,11 @@ first_count b e = omega (arith, digit_count b e)
 
 -- A number begins with a digit and goes on with each that may follow.
 pub number_begins : (most b : ℕ) (ds : List ℕ) → 9 ≤ most →
-    number_up_to most (b ∷ ds) ≡ after_digits (first_digit b) (λ n. number_on most n ds)
+    number_up_to most (b ∷ ds) ≡ option_and_then (λ n. number_on most n ds) (first_digit b)
 unfolding number_up_to is_decimal numeral_read read_from first_digit next_digit number_on every
 number_begins most b [] large = by (is_digit b) refl
   where
-    by : (t : Bool) → is_digit b ≡ t → number_up_to most (b ∷ []) ≡ after_digits (first_digit b) (λ n. number_on most n [])
+    by : (t : Bool) → is_digit b ≡ t → number_up_to most (b ∷ []) ≡ option_and_then (λ n. number_on most n []) (first_digit b)
     by false e = rw e
     by true e =
         let small : b - 48 ≤ most = omega (arith, (digit_bounds b e).1) in
@@ -80,7 +74,7 @@ number_begins most b (c ∷ cs) large = by (is_digit b) refl (eqb b 48) refl
     ds = c ∷ cs
 
     by : (t : Bool) → is_digit b ≡ t → (u : Bool) → eqb b 48 ≡ u →
-        number_up_to most (b ∷ ds) ≡ after_digits (first_digit b) (λ n. number_on most n ds)
+        number_up_to most (b ∷ ds) ≡ option_and_then (λ n. number_on most n ds) (first_digit b)
     by false e true f = rw (e, f)
     by false e false f = rw (e, f)
     by true e true f = let none_left : b - 48 ≡ 0 = omega (arith, eqb-true b 48 f) in rw (e, f, none_left)

@@ -1,29 +1,25 @@
 -- How a line is read, one byte after another; `line_read` of proofs/Line says that this is what the line says.
 -- Assumes nothing.
-use Rattle.std.specs.Prelude.{ℕ, ◌+◌, ◌-◌, ◌*◌, ◌^◌, cond, not, ◌&&◌, List, [], ◌∷◌, eqb, leb}
-use Rattle.std.proofs.Math.Option.{Option, none, some}
+use Rattle.std.specs.Prelude.{ℕ, ◌+◌, ◌-◌, ◌*◌, ◌^◌, cond, not, ◌&&◌, List, [], ◌∷◌, Option, Some, None, eqb, leb}
 use Rattle.texts.specs.Reading.{is_digit}
 use Rattle.hold_lines.specs.Text.{Held, raised_of}
 use Rattle.hold_lines.specs.declared.place.Place.{Place}
 use Rattle.hold_lines.specs.declared.place.Place.TheVariants as P
-use Rattle.hold_lines.specs.declared.place.Digits.{Digits}
-use Rattle.hold_lines.specs.declared.place.Digits.TheVariants.{Of, Wrong}
 use Rattle.hold_lines.specs.declared.place.Line.{Line}
-use Rattle.hold_lines.specs.declared.place.Line.TheVariants as L
 
 -- The digits '0' to '9' are the bytes from 48 on.
-unfoldable pub first_digit : ℕ → Digits
-first_digit b = cond (is_digit b) (Of (b - 48)) Wrong
+unfoldable pub first_digit : ℕ → Option ℕ
+first_digit b = cond (is_digit b) (Some (b - 48)) None
 
 -- Behind a single zero stands no digit, and no number is above the most that is allowed (RULES 21.2, 21.3).
-unfoldable pub next_digit : ℕ → ℕ → ℕ → Digits
+unfoldable pub next_digit : ℕ → ℕ → ℕ → Option ℕ
 next_digit most n b =
-    cond (not (eqb n 0) && (is_digit b && leb (n * 10 + (b - 48)) most)) (Of (n * 10 + (b - 48))) Wrong
+    cond (not (eqb n 0) && (is_digit b && leb (n * 10 + (b - 48)) most)) (Some (n * 10 + (b - 48))) None
 
 -- Goes on with what the digits make.
-abbrev pub with_digits : Digits → (ℕ → Place) → Place
-with_digits (Of n) go = go n
-with_digits Wrong go = P.Broken
+abbrev pub with_digits : Option ℕ → (ℕ → Place) → Place
+with_digits (Some n) go = go n
+with_digits None go = P.Broken
 
 -- The size of a hold below zero begins with a digit above 0.
 abbrev pub size_from : ℕ → ℕ → Place
@@ -47,18 +43,18 @@ stepped_by place [] = place
 stepped_by place (b ∷ bs) = stepped_by (stepped place b) bs
 
 -- A line ends behind the digits of its hold.
-unfoldable pub closed : Place → Line
-closed P.Start = L.Broken
-closed (P.Crew n) = L.Broken
-closed (P.BeforeRound crew) = L.Broken
-closed (P.Round crew n) = L.Broken
-closed (P.BeforeHold crew) = L.Broken
-closed (P.BeforeSize crew) = L.Broken
-closed (P.Hold crew n) = cond (leb n (2 ^ 63 - 1)) (L.Hold crew (2 ^ 63 + n)) L.Broken
-closed (P.Below crew n) = cond (leb n (2 ^ 63)) (L.Hold crew (2 ^ 63 - n)) L.Broken
-closed P.Broken = L.Broken
+unfoldable pub closed : Place → Option Line
+closed P.Start = None
+closed (P.Crew n) = None
+closed (P.BeforeRound crew) = None
+closed (P.Round crew n) = None
+closed (P.BeforeHold crew) = None
+closed (P.BeforeSize crew) = None
+closed (P.Hold crew n) = cond (leb n (2 ^ 63 - 1)) (Some (record { crew = crew; raised = 2 ^ 63 + n })) None
+closed (P.Below crew n) = cond (leb n (2 ^ 63)) (Some (record { crew = crew; raised = 2 ^ 63 - n })) None
+closed P.Broken = None
 
 -- What a line says, as the code has it.
-abbrev pub line_held : Option Held → Line
-line_held none = L.Broken
-line_held (some h) = L.Hold h.crew (raised_of h.hold)
+abbrev pub line_held : Option Held → Option Line
+line_held None = None
+line_held (Some h) = Some (record { crew = h.crew; raised = raised_of h.hold })

@@ -1,7 +1,7 @@
 -- The text of a year's holds: its lines, and what each of them says (RULES 21.1 to 21.4).
 -- Assumes nothing.
 use Rattle.std.specs.Prelude.{ℕ, zero, suc, ◌+◌, ◌-◌, ◌^◌, Bool, false, cond, not, ◌&&◌, List, [], ◌∷◌, eqb, leb, ℤ, pos, negsuc}
-use Rattle.std.proofs.Math.Option.{Option, none, some}
+use Rattle.std.specs.Prelude.{Option, None, Some}
 use Rattle.lent.specs.Listed.{every}
 use Rattle.texts.specs.Reading.{is_digit, numeral_read}
 
@@ -38,21 +38,21 @@ is_decimal (b ∷ c ∷ bs) = not (eqb b 48) && every is_digit (b ∷ c ∷ bs)
 
 -- The number of a decimal that is at most so large.
 unfoldable pub number_up_to : ℕ → List ℕ → Option ℕ
-number_up_to most ds = cond (is_decimal ds && leb (numeral_read 10 ds) most) (some (numeral_read 10 ds)) none
+number_up_to most ds = cond (is_decimal ds && leb (numeral_read 10 ds) most) (Some (numeral_read 10 ds)) None
 
 -- A size above zero, taken below zero.
 abbrev pub below_zero : Option ℕ → Option ℤ
-below_zero none = none
-below_zero (some zero) = none
-below_zero (some (suc n)) = some (negsuc n)
+below_zero None = None
+below_zero (Some zero) = None
+below_zero (Some (suc n)) = Some (negsuc n)
 
 abbrev pub from_zero : Option ℕ → Option ℤ
-from_zero none = none
-from_zero (some n) = some (pos n)
+from_zero None = None
+from_zero (Some n) = Some (pos n)
 
 -- A hold is a decimal to 2^63 - 1, or a minus sign, the byte 45, and a decimal from 1 to 2^63 (RULES 21.3).
 unfoldable pub hold_in : List ℕ → Option ℤ
-hold_in [] = none
+hold_in [] = None
 hold_in (b ∷ ds) = cond (eqb b 45) (below_zero (number_up_to (2 ^ 63) ds)) (from_zero (number_up_to (2 ^ 63 - 1) (b ∷ ds)))
 
 -- What counts of a line: the round's number is read, and no report speaks of it.
@@ -61,18 +61,18 @@ pub record Held : Type 0 where
   pub hold : ℤ
 
 abbrev pub all_three : Option ℕ → Option ℕ → Option ℤ → Option Held
-all_three (some crew) (some round) (some hold) = some (record { crew = crew; hold = hold })
-all_three (some crew) (some round) none = none
-all_three (some crew) none hold = none
-all_three none round hold = none
+all_three (Some crew) (Some round) (Some hold) = Some (record { crew = crew; hold = hold })
+all_three (Some crew) (Some round) None = None
+all_three (Some crew) None hold = None
+all_three None round hold = None
 
 -- A crew's number to 63, a round's to 2^32 - 1, and a hold (RULES 21.3).
 abbrev pub read_fields : List (List ℕ) → Option Held
-read_fields [] = none
-read_fields (crew ∷ []) = none
-read_fields (crew ∷ round ∷ []) = none
+read_fields [] = None
+read_fields (crew ∷ []) = None
+read_fields (crew ∷ round ∷ []) = None
 read_fields (crew ∷ round ∷ hold ∷ []) = all_three (number_up_to 63 crew) (number_up_to (2 ^ 32 - 1) round) (hold_in hold)
-read_fields (crew ∷ round ∷ hold ∷ next ∷ more) = none
+read_fields (crew ∷ round ∷ hold ∷ next ∷ more) = None
 
 -- A line is three decimals, one space, the byte 32, apart; any other is malformed (RULES 21.1, 21.4).
 unfoldable pub line_in : List ℕ → Option Held

@@ -1,5 +1,5 @@
 // Where the reading of a line stands, one byte after another (docs/RULES.md, 21.1 to 21.4).
-ghost use Rattle.std.specs.Prelude.{◌≡◌, ◌≤◌, ◌^◌};
+ghost use Rattle.std.specs.Prelude.{◌≡◌};
 ghost use Rattle.hold_lines.specs.Place.{first_digit, next_digit, stepped, closed};
 
 // Before the line's first byte; in the crew's number; behind the space after it; in the round's number; behind the space after
@@ -18,161 +18,122 @@ pub enum Place {
     Broken,
 }
 
-// What digits make, or that they are no decimal of the line.
+// A whole line: its crew, and its hold raised by 2^63, so that it is a number of 64 bits without a sign.
 #[derive(Clone, Copy)]
-pub enum Digits {
-    Of(u64),
-    Wrong,
+pub struct Line {
+    pub crew: u64,
+    pub raised: u64,
 }
 
-// A whole line: its crew, and its hold raised by 2^63, so that it is a number of 64 bits without a sign; or no line.
-#[derive(Clone, Copy)]
-pub enum Line {
-    Hold(u64, u64),
-    Broken,
-}
-
-// The last of the digits.
-const NINE: u8 = b'9';
+// A hold of a line is raised by so much, and none is further below zero.
+const RAISE: u64 = 1 << 63;
 
 // The first digit of a number.
-fn first_digit(b: u8) -> Digits
+#[tactic(auto, unfolding(crate::specs::Place::first_digit, texts::specs::Reading::is_digit))]
+fn first_digit(b: u8) -> Option<u64>
     ensures { result ≡ first_digit b }
 {
-    if b < b'0' {
-        return Digits::Wrong;
+    match b {
+        b'0'..=b'9' => Some((b - b'0') as u64),
+        _ => None,
     }
-    if b > NINE {
-        return Digits::Wrong;
-    }
-    Digits::Of((b - b'0') as u64)
 }
 
-// Behind a larger number a digit more makes one above 2^63.
-const LAST_TO_GROW: u64 = 922337203685477580;
-
 // A digit more behind those that make n: none behind a single zero, and no number above the most that is allowed.
-fn next_digit(most: u64, n: u64, b: u8) -> Digits
-    requires { most ≤ 2 ^ 63 }
+#[tactic(auto, unfolding(crate::specs::Place::next_digit, crate::specs::Place::first_digit, texts::specs::Reading::is_digit))]
+fn next_digit(most: u64, n: u64, b: u8) -> Option<u64>
     ensures { result ≡ next_digit most n b }
 {
     if n == 0 {
-        return Digits::Wrong;
+        return None;
     }
-    let digit = first_digit(b);
-    let Digits::Of(d) = digit else {
-        return Digits::Wrong;
-    };
-    if n > LAST_TO_GROW {
-        return Digits::Wrong;
-    }
-    let next = n * 10 + d;
-    if next > most {
-        return Digits::Wrong;
-    }
-    Digits::Of(next)
+    let d = first_digit(b)?;
+    let next = n.checked_mul(10)?.checked_add(d)?;
+    (next <= most).then_some(next)
 }
 
 // In the crew's number.
+#[tactic(auto, unfolding(crate::specs::Place::stepped))]
 fn crew_step(n: u64, b: u8) -> Place
     ensures { result ≡ stepped (Place.Crew n) b }
 {
     if b == b' ' {
         return Place::BeforeRound(n);
     }
-    let digits = next_digit(63, n, b);
-    let Digits::Of(next) = digits else {
-        return Place::Broken;
-    };
-    Place::Crew(next)
+    next_digit(63, n, b).map_or(Place::Broken, |next| Place::Crew(next))
 }
 
 // In the round's number.
+#[tactic(auto, unfolding(crate::specs::Place::stepped))]
 fn round_step(crew: u64, n: u64, b: u8) -> Place
     ensures { result ≡ stepped (Place.Round crew n) b }
 {
     if b == b' ' {
         return Place::BeforeHold(crew);
     }
-    let digits = next_digit(4294967295, n, b);
-    let Digits::Of(next) = digits else {
-        return Place::Broken;
-    };
-    Place::Round(crew, next)
+    next_digit(u32::MAX as u64, n, b).map_or(Place::Broken, |next| Place::Round(crew, next))
 }
 
 // At the first byte of the hold.
+#[tactic(auto, unfolding(crate::specs::Place::stepped))]
 fn first_of_hold(crew: u64, b: u8) -> Place
     ensures { result ≡ stepped (Place.BeforeHold crew) b }
 {
     if b == b'-' {
         return Place::BeforeSize(crew);
     }
-    let digits = first_digit(b);
-    let Digits::Of(n) = digits else {
-        return Place::Broken;
-    };
-    Place::Hold(crew, n)
+    first_digit(b).map_or(Place::Broken, |n| Place::Hold(crew, n))
 }
 
 // At the first digit behind a minus sign: there is no hold of minus zero.
+#[tactic(auto, unfolding(crate::specs::Place::stepped))]
 fn first_of_size(crew: u64, b: u8) -> Place
     ensures { result ≡ stepped (Place.BeforeSize crew) b }
 {
-    let digits = first_digit(b);
-    let Digits::Of(size) = digits else {
-        return Place::Broken;
-    };
-    if size == 0 {
-        return Place::Broken;
+    match first_digit(b) {
+        None | Some(0) => Place::Broken,
+        Some(size) => Place::Below(crew, size),
     }
-    Place::Below(crew, size)
 }
 
 // One byte more.
+#[tactic(auto, unfolding(crate::specs::Place::stepped))]
 pub fn step(place: Place, b: u8) -> Place
     ensures { result ≡ stepped place b }
 {
     match place {
-        Place::Start => match first_digit(b) {
-            Digits::Of(n) => Place::Crew(n),
-            Digits::Wrong => Place::Broken,
-        },
+        Place::Start => first_digit(b).map_or(Place::Broken, |n| Place::Crew(n)),
         Place::Crew(n) => crew_step(n, b),
-        Place::BeforeRound(crew) => match first_digit(b) {
-            Digits::Of(n) => Place::Round(crew, n),
-            Digits::Wrong => Place::Broken,
-        },
+        Place::BeforeRound(crew) => first_digit(b).map_or(Place::Broken, |n| Place::Round(crew, n)),
         Place::Round(crew, n) => round_step(crew, n, b),
         Place::BeforeHold(crew) => first_of_hold(crew, b),
         Place::BeforeSize(crew) => first_of_size(crew, b),
-        Place::Hold(crew, n) => match next_digit(9223372036854775807, n, b) {
-            Digits::Of(next) => Place::Hold(crew, next),
-            Digits::Wrong => Place::Broken,
-        },
-        Place::Below(crew, n) => match next_digit(9223372036854775808, n, b) {
-            Digits::Of(next) => Place::Below(crew, next),
-            Digits::Wrong => Place::Broken,
-        },
+        Place::Hold(crew, n) => next_digit(RAISE - 1, n, b).map_or(
+            Place::Broken,
+            |next| Place::Hold(crew, next),
+        ),
+        Place::Below(crew, n) => next_digit(RAISE, n, b).map_or(
+            Place::Broken,
+            |next| Place::Below(crew, next),
+        ),
         Place::Broken => Place::Broken,
     }
 }
 
 // The line that ends here, if one may.
-pub fn close(place: Place) -> Line
+#[tactic(auto, unfolding(crate::specs::Place::closed))]
+pub fn close(place: Place) -> Option<Line>
     ensures { result ≡ closed place }
 {
-    if let Place::Hold(crew, n) = place {
-        if n > 9223372036854775807 {
-            return Line::Broken;
-        }
-        return Line::Hold(crew, 9223372036854775808 + n);
+    match place {
+        Place::Hold(crew, n) => Some(Line {
+            crew,
+            raised: RAISE.checked_add(n)?,
+        }),
+        Place::Below(crew, n) => Some(Line {
+            crew,
+            raised: RAISE.checked_sub(n)?,
+        }),
+        _ => None,
     }
-    let Place::Below(crew, n) = place else {
-        return Line::Broken;
-    };
-    if n > 9223372036854775808 {
-        return Line::Broken;
-    }
-    Line::Hold(crew, 9223372036854775808 - n)
 }

@@ -1,6 +1,7 @@
 -- The words that are put for a raised number, by its sign: those of the number itself, and of a mean and its remainder.
 -- Assumes nothing.
-use Rattle.std.proofs.Common.{◌≡◌, ℕ, suc, ◌+◌, ◌-◌, ◌/◌, ◌%◌, ◌^◌, ◌<◌, ◌≤◌, pos, negsuc, sym, ◌∙◌, arith, le-ltb, lt-ltb}
+use Rattle.std.proofs.Common.{◌≡◌, ℕ, suc, ◌+◌, ◌-◌, ◌/◌, ◌%◌, ◌^◌, ◌<◌, ◌≤◌, pos, negsuc, sym, ◌∙◌, arith, le-ltb, lt-ltb, inl, inr}
+use Rattle.std.proofs.lemmas.Bool.{cases_lt}
 use Rattle.number_words.specs.Word.{word_of}
 use Rattle.hold_figures.specs.Crews.{mean_of, remainder_of}
 use Rattle.hold_report.specs.Told.{lowered_of}
@@ -14,11 +15,12 @@ unfolding lowered_of
 lowered_above w h = rw (le-ltb w (2 ^ 63) h)
 
 -- The number itself.
-pub word_below : (w : ℕ) → w < 2 ^ 63 → word_of (lowered_of w) ≡ w + 9223372036854775808
-word_below w h = rw (lowered_below w h) (omega arith)
-
-pub word_above : (w : ℕ) → 2 ^ 63 ≤ w → word_of (lowered_of w) ≡ w - 9223372036854775808
-word_above w h = rw (lowered_above w h)
+pub word_lowered : (w : ℕ) → w < 2 ^ 64 → word_of (lowered_of w) ≡ (w + 2 ^ 63) % 2 ^ 64
+word_lowered w fits =
+    elim (cases_lt w (2 ^ 63)) [
+      | inl h ↦ rw (lowered_below w h) (omega arith)
+      | inr h ↦ rw (lowered_above w h) (omega arith)
+    ]
 
 -- The mean.
 pub mean_below : (w rounds word : ℕ) → w < 2 ^ 63 → word ≡ 2 ^ 64 - ((9223372036854775807 - w) / rounds + 1) →

@@ -11,14 +11,15 @@ ghost use Rattle.hold_report.specs.Told.{lowered_of, crew_told, crews_told, word
 use texts::room::Told;
 use texts::{numerals, room};
 
+// Totals and largest holds are raised by so much.
+const RAISE: u64 = 1 << 63;
+
 // Puts the number that a raised one stands for.
+#[tactic(auto, using(crate::proofs::Lowered::word_lowered))]
 fn put_lowered(out: &mut [u8], at: usize, raised: u64) -> usize
     ensures { PutText (time_field (word_of (lowered_of raised))) out.old at out.new result }
 {
-    if raised < 9223372036854775808 {
-        return numerals::put_time(out, at, raised + 9223372036854775808);
-    }
-    numerals::put_time(out, at, raised - 9223372036854775808)
+    numerals::put_time(out, at, raised.wrapping_add(RAISE))
 }
 
 // Puts the mean of a raised total over so many rounds, rounded down, and what is left above it.
@@ -28,13 +29,13 @@ fn put_mean(out: &mut [u8], at: usize, total: u64, rounds: u64) -> usize
         (time_field (word_of (mean_of (lowered_of total) rounds)) ++ count_field (remainder_of (lowered_of total) rounds))
         out.old at out.new result }
 {
-    if total < 9223372036854775808 {
-        let below = 9223372036854775807 - total;
+    if total < RAISE {
+        let below = RAISE - 1 - total;
         let size = below / rounds + 1;
-        let next = numerals::put_time(out, at, std::num::wrapping_sub_u64(0, size));
+        let next = numerals::put_time(out, at, size.wrapping_neg());
         return numerals::put_count(out, next, rounds - 1 - below % rounds);
     }
-    let above = total - 9223372036854775808;
+    let above = total - RAISE;
     let next = numerals::put_time(out, at, above / rounds);
     numerals::put_count(out, next, above % rounds)
 }
@@ -65,6 +66,7 @@ fn put_figures(out: &mut [u8], at: usize, crew: u64, rounds: u64, total: u64, la
 }
 
 // Puts the line of a crew, by its three words.
+#[tactic(auto, unfolding(crate::specs::Told::crew_told))]
 fn put_crew(out: &mut [u8], at: usize, figures: &[u64; 192], crew: usize) -> usize
     requires { crew < 64 }
     ensures { PutText (crew_told figures.now crew) out.old at out.new result }
@@ -89,10 +91,8 @@ fn put_crews(out: &mut [u8], at: usize, figures: &[u64; 192]) -> usize
     ensures { PutText (crews_told figures.now 64 0) out.old at out.new result }
 {
     let mut next = at;
-    let mut crew = 0;
-    while crew < 64 {
+    for crew in 0..64 {
         next = put_crew(out, next, figures, crew);
-        crew += 1;
     }
     next
 }

@@ -4,18 +4,19 @@ use Prim.Native.Nat.{ℕ, ◌+◌}
 use mathlib.Core.Path.{◌≡◌, refl, sym, ap, ◌∙◌}
 use mathlib.Core.Bool.{Bool, true, false, cond, true≢false}
 use mathlib.Core.List.{List, [], ◌∷◌, ◌++◌, append-nil}
-use mathlib.Core.Option.{Option, none, some}
+use Rattle.refusals.specs.Names.{LINE, refusal_number}
+use Rattle.refusals.specs.declared.Refusal.{Refusal}
+use Rattle.refusals.specs.declared.Refusal.TheVariants as Refusals
+use Rattle.std.proofs.Common.{Option, None, Some}
 use borrow.Author.Tests.{ltb-true}
 use native.Mathlib.Omega.{arith}
 use lib.Dec.{eqb, ltb}
 use lib.ListN.{length, replicate, length-append}
-use Rattle.refusals.specs.Names.{LINE, OVERFLOW}
 use Rattle.lent.specs.Outcome.{Outcome, Gives, Refuses}
 use Rattle.lent.specs.Rows.{words_in}
 use Rattle.hold_lines.specs.Text.{Held, pieces_at, without_empty_end, lines_in, line_in}
 use Rattle.hold_lines.specs.Place.{stepped, stepped_by, closed, line_held}
 use Rattle.hold_lines.specs.declared.place.Place.TheVariants as P
-use Rattle.hold_lines.specs.declared.place.Line.TheVariants as L
 use Rattle.hold_lines.proofs.Line.{line_read, broken_stays}
 use Rattle.hold_figures.specs.Crews.{holds_of, total_of, is_signed64}
 use Rattle.hold_figures.specs.Words.{Grown, Stopped, figures_of}
@@ -61,7 +62,7 @@ fed_both s words (b ∷ p) q = by (byte_fed s words b) (λ t left. fed_both t le
         going_on g (λ t left. fed_by t left (p ++ q)) ≡
         going_on (going_on g (λ t left. fed_by t left p)) (λ t left. fed_by t left q)
     by (On t left) both = both t left
-    by (Over n) both = refl
+    by (Over why) both = refl
 
 -- Parts one behind another are as the text that they make.
 pub fed_joined : (s : Reading) (words : List ℕ) (parts : List (List ℕ)) →
@@ -74,7 +75,7 @@ fed_joined s words (part ∷ parts) =
     by : (g : Going) → ((t : Reading) (left : List ℕ) → fed_parts t left parts ≡ fed_by t left (words_in parts)) →
         going_on g (λ t left. fed_parts t left parts) ≡ going_on g (λ t left. fed_by t left (words_in parts))
     by (On t left) same = same t left
-    by (Over n) same = refl
+    by (Over why) same = refl
 
 -- ---- The whole text.
 
@@ -84,7 +85,7 @@ read_to before begin = record { lines = length before; place = stepped_by P.Star
 
 -- Where a line ends, whatever is made of the reading then: it is refused as the line is, or goes on with one line more.
 line_ended_law : (before : List Held) (line : List ℕ) (lines : List (List ℕ)) (made : Going → Outcome) → Sound before →
-    ((n : ℕ) → made (Over n) ≡ Refuses n) →
+    ((why : Refusal) → made (Over why) ≡ Refuses (refusal_number why)) →
     ((now : List Held) → Sound now → made (On (read_to now []) (figures_of now)) ≡ year_answer (year_from now lines)) →
     made (line_ended (read_to before line) (figures_of before)) ≡ year_answer (year_from before (line ∷ lines))
 unfolding line_ended year_from year_answer stepped_by
@@ -98,17 +99,17 @@ line_ended_law before line lines made sound stops goes =
     more h = length-append before (h ∷ [])
 
     total : (h : Held) → Limited h → (fits : Bool) → is_signed64 (total_of (holds_of h.crew (now h))) ≡ fits →
-        made (counting (cond fits (Grown (figures_of (now h))) (Stopped OVERFLOW)) (length before)) ≡
-        year_answer (cond fits (year_from (now h) lines) (Y.Refused OVERFLOW))
+        made (counting (cond fits (Grown (figures_of (now h))) (Stopped Refusals.Overflow)) (length before)) ≡
+        year_answer (cond fits (year_from (now h) lines) (Y.Refused Refusals.Overflow))
     total h f true e = rw (sym (more h)) (goes (now h) (sound_more before h sound f.hold e))
-    total h f false e = stops OVERFLOW
+    total h f false e = stops Refusals.Overflow
 
     by : (few : Bool) → ltb (length before) 100_000 ≡ few → (read : Option Held) → line_in line ≡ read →
-        made (cond few (line_taken (line_held read) (length before) (figures_of before)) (Over LINE)) ≡
-        year_answer (cond few (from_line read (λ h. with_total before h (λ now. year_from now lines))) (Y.Refused LINE))
-    by false e read r = stops LINE
-    by true e none r = stops LINE
-    by true e (some h) r =
+        made (cond few (line_taken (line_held read) (length before) (figures_of before)) (Over Refusals.Line)) ≡
+        year_answer (cond few (from_line read (λ h. with_total before h (λ now. year_from now lines))) (Y.Refused Refusals.Line))
+    by false e read r = stops Refusals.Line
+    by true e None r = stops Refusals.Line
+    by true e (Some h) r =
         let f : Limited h = line_limited line h r in
         rw (counted_round before h sound (ltb-true _ _ e) f.crew f.hold)
         (total h f (is_signed64 (total_of (holds_of h.crew (now h)))) refl)
@@ -122,17 +123,17 @@ line_broken before (b ∷ begin) text broken =
     behind_some b begin text (λ lines. Refuses LINE ≡ year_answer (year_from before lines))
     (λ more lines. by lines (ltb (length before) 100_000) (line_in ((b ∷ begin) ++ more)) (says more))
   where
-    says : (more : List ℕ) → line_held (line_in ((b ∷ begin) ++ more)) ≡ L.Broken
+    says : (more : List ℕ) → line_held (line_in ((b ∷ begin) ++ more)) ≡ None
     says more =
         sym (line_read ((b ∷ begin) ++ more)) ∙
         ap closed
         (stepped_both P.Start (b ∷ begin) more ∙ ap (λ place. stepped_by place more) broken ∙ broken_stays more)
 
-    by : (lines : List (List ℕ)) (few : Bool) (read : Option Held) → line_held read ≡ L.Broken →
+    by : (lines : List (List ℕ)) (few : Bool) (read : Option Held) → line_held read ≡ None →
         Refuses LINE ≡
-        year_answer (cond few (from_line read (λ h. with_total before h (λ now. year_from now lines))) (Y.Refused LINE))
-    by lines true none e = refl
-    by lines true (some h) e = absurd (let z : ◌≡◌ {A = ℕ} 0 1 = cc in omega arith)
+        year_answer (cond few (from_line read (λ h. with_total before h (λ now. year_from now lines))) (Y.Refused Refusals.Line))
+    by lines true None e = refl
+    by lines true (Some h) e = absurd (let z : ◌≡◌ {A = ℕ} 0 1 = cc in omega arith)
     by lines false read e = refl
 
 -- A text behind these lines, and behind the bytes of the next so far.
@@ -143,7 +144,7 @@ unfolding fed_by byte_fed finished text_ended stepped_by pieces_at without_empty
 fed_answer_law [] [] before sound = ap Gives (told_report before sound)
 fed_answer_law [] (b ∷ begin) before sound =
     rw (is_begun b begin, append-nil begin)
-    (line_ended_law before (b ∷ begin) [] reported sound (λ n. refl) (λ now kept. ap Gives (told_report now kept)))
+    (line_ended_law before (b ∷ begin) [] reported sound (λ why. refl) (λ now kept. ap Gives (told_report now kept)))
 fed_answer_law (b ∷ text) begin before sound =
     by (eqb b 10) refl (is_broken (stepped (stepped_by P.Start begin) b)) refl (λ next now kept. fed_answer_law text next now kept)
   where
@@ -161,7 +162,7 @@ fed_answer_law (b ∷ text) begin before sound =
         (line_ended_law before begin (without_empty_end (pieces_at 10 text))
         (λ g. answer_after (going_on g (λ t left. fed_by t left text)))
         sound
-        (λ n. refl)
+        (λ why. refl)
         (λ now kept. rest [] now kept ∙ ap (λ lines. year_answer (year_from now lines)) (behind_nothing text)))
     by false e true k rest =
         rw (behind_byte begin b text e, e, k) (line_broken before (begin ++ (b ∷ [])) text (sym next ∙ is_broken_law _ k))

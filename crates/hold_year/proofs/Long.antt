@@ -8,19 +8,18 @@ use borrow.Author.Tests.{leb-true, leb-false, ltb-true, eqb-false}
 use native.Mathlib.Nat.{pow-suc, pow-le-pow_right}
 use native.Mathlib.Numerals.{add-one}
 use native.Mathlib.Omega.{arith}
+use Rattle.refusals.specs.Names.{LINE, refusal_number}
+use Rattle.refusals.specs.declared.Refusal.TheVariants as Refusals
+use Rattle.std.proofs.Common.{Option, Some, None}
 use lib.Dec.{eqb, leb, ltb}
 use lib.ListN.{length, replicate}
-use Rattle.refusals.specs.Names.{LINE}
 use Rattle.lent.specs.Outcome.{Gives, Refuses}
 use Rattle.lent.specs.Rows.{words_in}
 use Rattle.texts.specs.Reading.{is_digit}
 use Rattle.hold_lines.specs.Place.{first_digit, next_digit, with_digits, size_from, stepped, closed}
 use Rattle.hold_lines.specs.declared.place.Place.{Place}
 use Rattle.hold_lines.specs.declared.place.Place.TheVariants as P
-use Rattle.hold_lines.specs.declared.place.Digits.{Digits}
-use Rattle.hold_lines.specs.declared.place.Digits.TheVariants.{Of, Wrong}
 use Rattle.hold_lines.specs.declared.place.Line.{Line}
-use Rattle.hold_lines.specs.declared.place.Line.TheVariants as L
 use Rattle.hold_figures.specs.Words.{Tally, Grown, Stopped, tallied}
 use Rattle.hold_year.specs.Year.{year_reply}
 use Rattle.hold_year.specs.Parts.{
@@ -60,16 +59,16 @@ record Behind (base m n most : ℕ) : Type 0 where
   makes : Makes digits n
   limit : n ≤ most
 
-abbrev Digital : (ℕ → Type 0) → Digits → Type 0
-Digital Q (Of n) = Q n
-Digital Q Wrong = Unit {0}
+abbrev Digital : (ℕ → Type 0) → Option ℕ → Type 0
+Digital Q (Some n) = Q n
+Digital Q None = Unit {0}
 
 first_behind : (base m most b : ℕ) → m ≤ base → 9 ≤ most → Digital (λ n. Behind base (m + 1) n most) (first_digit b)
 unfolding first_digit is_digit
 first_behind base m most b h k = by (leb 48 b) (leb b 57) refl
   where
     by : (low high : Bool) → leb b 57 ≡ high →
-        Digital (λ n. Behind base (m + 1) n most) (cond (low && high) (Of (b - 48)) Wrong)
+        Digital (λ n. Behind base (m + 1) n most) (cond (low && high) (Some (b - 48)) None)
     by true true e =
         record {
           digits = 1;
@@ -89,7 +88,7 @@ unfolding next_digit
 next_behind base m n most b h = by (eqb n 0) refl (is_digit b) (leb (n * 10 + (b - 48)) most) refl
   where
     by : (none : Bool) → eqb n 0 ≡ none → (digit fits : Bool) → leb (n * 10 + (b - 48)) most ≡ fits →
-        Digital (λ n. Behind base (m + 1) n most) (cond (not none && (digit && fits)) (Of (n * 10 + (b - 48))) Wrong)
+        Digital (λ n. Behind base (m + 1) n most) (cond (not none && (digit && fits)) (Some (n * 10 + (b - 48))) None)
     by true e digit fits k = tt
     by false e false fits k = tt
     by false e true false k = tt
@@ -140,10 +139,10 @@ step_reach : (place : Place) (m b : ℕ) → Reach m place → Reach (m + 1) (st
 unfolding stepped
 step_reach place m b = by place
   where
-    digits : (Q : ℕ → Type 0) (go : ℕ → Place) (d : Digits) → Digital Q d → ((n : ℕ) → Q n → Reach (m + 1) (go n)) →
+    digits : (Q : ℕ → Type 0) (go : ℕ → Place) (d : Option ℕ) → Digital Q d → ((n : ℕ) → Q n → Reach (m + 1) (go n)) →
         Reach (m + 1) (with_digits d go)
-    digits Q go (Of n) q h = h n q
-    digits Q go Wrong q h = tt
+    digits Q go (Some n) q h = h n q
+    digits Q go None q h = tt
 
     either : (test : Bool) (p q : Place) → Reach (m + 1) p → Reach (m + 1) q → Reach (m + 1) (cond test p q)
     either true p q h k = h
@@ -202,12 +201,12 @@ line_far k s words far = by (ltb s.lines 100_000) refl (closed s.place)
     counted : s.lines < 100_000 → (t : Tally) → Holds (Far (k + 1)) (counting t s.lines)
     counted few (Grown left) =
         record { bytes = 0; reach = refl; whole = refl; lines = omega arith; within = omega (arith, short, far.within) }
-    counted few (Stopped n) = tt
+    counted few (Stopped why) = tt
 
-    by : (few : Bool) → ltb s.lines 100_000 ≡ few → (line : Line) →
-        Holds (Far (k + 1)) (cond few (line_taken line s.lines words) (Over LINE))
-    by true e (L.Hold crew hold) = counted (ltb-true _ _ e) (tallied words crew hold)
-    by true e L.Broken = tt
+    by : (few : Bool) → ltb s.lines 100_000 ≡ few → (line : Option Line) →
+        Holds (Far (k + 1)) (cond few (line_taken line s.lines words) (Over Refusals.Line))
+    by true e (Some line) = counted (ltb-true _ _ e) (tallied words line.crew line.raised)
+    by true e None = tt
     by false e line = tt
 
 byte_far : (k : ℕ) (s : Reading) (words : List ℕ) (b : ℕ) → Far k s words → Holds (Far (k + 1)) (byte_fed s words b)
@@ -218,7 +217,7 @@ byte_far k s words b far = by (eqb b 10) (is_broken (stepped s.place b)) refl
         Holds (Far (k + 1))
         (cond newline
         (line_ended s words)
-        (cond broken (Over LINE) (On (record { lines = s.lines; place = stepped s.place b }) words)))
+        (cond broken (Over Refusals.Line) (On (record { lines = s.lines; place = stepped s.place b }) words)))
     by true broken e = line_far k s words far
     by false true e = tt
     by false false e =
@@ -264,8 +263,8 @@ unfolding finished text_ended line_ended
 ended_short k s words report far = by (is_start s.place) refl (ltb s.lines 100_000) refl
   where
     by : (start : Bool) → is_start s.place ≡ start → (few : Bool) → ltb s.lines 100_000 ≡ few →
-        reported (cond start (On s words) (cond few (line_taken (closed s.place) s.lines words) (Over LINE))) ≡ Gives report →
-        k ≤ 3_500_000
+        reported (cond start (On s words) (cond few (line_taken (closed s.place) s.lines words) (Over Refusals.Line))) ≡
+        Gives report → k ≤ 3_500_000
     by true e few f r = omega (arith, far.within, far.lines, start_reach s.place far.bytes far.reach e)
     by false e true f r =
         omega (
@@ -286,4 +285,4 @@ taken_short text report e =
         answer_after (going_on g (λ t left. On t left)) ≡ year_reply (text ++ []) → length text ≤ 3_500_000
     by (On t left) far r =
         omega (arith, ended_short (0 + length text) t left report far (r ∙ ap year_reply (append-nil text) ∙ e))
-    by (Over n) far r = absurd (not_given n report (r ∙ ap year_reply (append-nil text) ∙ e))
+    by (Over why) far r = absurd (not_given (refusal_number why) report (r ∙ ap year_reply (append-nil text) ∙ e))

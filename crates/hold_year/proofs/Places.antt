@@ -4,12 +4,11 @@ use Prim.Native.Nat.{ℕ, ◌-◌, ◌^◌}
 use mathlib.Core.Path.{◌≡◌, refl, sym}
 use mathlib.Core.Bool.{Bool, true, false, cond, true≢false}
 use mathlib.Core.List.{List, [], ◌∷◌, ◌++◌}
+use Rattle.std.proofs.Common.{Option, Some, None}
 use lib.Dec.{eqb}
 use Rattle.hold_lines.specs.Place.{first_digit, next_digit, with_digits, size_from, stepped, stepped_by}
 use Rattle.hold_lines.specs.declared.place.Place.{Place}
 use Rattle.hold_lines.specs.declared.place.Place.TheVariants as P
-use Rattle.hold_lines.specs.declared.place.Digits.{Digits}
-use Rattle.hold_lines.specs.declared.place.Digits.TheVariants.{Of, Wrong}
 use Rattle.hold_year.specs.Parts.{is_broken, is_start}
 
 pub stepped_both : (place : Place) (p q : List ℕ) → stepped_by place (p ++ q) ≡ stepped_by (stepped_by place p) q
@@ -22,9 +21,9 @@ never_back : (place : Place) (b : ℕ) → is_start (stepped place b) ≡ false
 unfolding stepped
 never_back place b = by place
   where
-    digits : (d : Digits) (go : ℕ → Place) → ((n : ℕ) → is_start (go n) ≡ false) → is_start (with_digits d go) ≡ false
-    digits (Of n) go h = h n
-    digits Wrong go h = refl
+    digits : (d : Option ℕ) (go : ℕ → Place) → ((n : ℕ) → is_start (go n) ≡ false) → is_start (with_digits d go) ≡ false
+    digits (Some n) go h = h n
+    digits None go h = refl
 
     either : (test : Bool) (p q : Place) → is_start p ≡ false → is_start q ≡ false → is_start (cond test p q) ≡ false
     either true p q h k = h

@@ -9,7 +9,8 @@ use borrow.Author.Tests.{le-ltb, ltb-false}
 use native.Mathlib.Omega.{arith}
 use lib.Dec.{ltb}
 use lib.ListN.{length, replicate}
-use Rattle.refusals.specs.Names.{NO_ROOM}
+use Rattle.refusals.specs.Names.{NO_ROOM, refusal_number}
+use Rattle.refusals.specs.declared.Refusal.{Refusal}
 use Rattle.lent.specs.Outcome.{Outcome, Gives, Refuses, room_of}
 use Rattle.lent.specs.Rows.{words_in}
 use Rattle.texts.specs.Room.{told_of, told_number}
@@ -75,7 +76,7 @@ report_fits parts s words e =
     let answer : finished s words ≡ year_reply (words_in parts) = sym (ap answer_after e) ∙ cut_anyhow parts in
     rw answer (ap printed (answer_fits (year_reply (words_in parts)) (reply_short (words_in parts))))
 
-pub refusal_printed : (parts : List (List ℕ)) (n : ℕ) → fed_parts begun (replicate 192 0) parts ≡ Over n →
-    refused_line n ≡ year_text (words_in parts)
+pub refusal_printed : (parts : List (List ℕ)) (why : Refusal) → fed_parts begun (replicate 192 0) parts ≡ Over why →
+    refused_line (refusal_number why) ≡ year_text (words_in parts)
 unfolding year_text printed
-refusal_printed parts n e = ap printed (sym (ap answer_after e) ∙ cut_anyhow parts)
+refusal_printed parts why e = ap printed (sym (ap answer_after e) ∙ cut_anyhow parts)

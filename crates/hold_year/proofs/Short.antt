@@ -4,12 +4,12 @@ use Prim.Native.Nat.{ℕ, ◌≤◌}
 use mathlib.Core.Path.{◌≡◌, refl, subst}
 use mathlib.Core.Bool.{Bool, true, false, cond}
 use mathlib.Core.List.{List, [], ◌∷◌, ◌++◌}
-use mathlib.Core.Option.{Option, none, some}
+use Rattle.refusals.specs.declared.Refusal.TheVariants as Refusals
+use Rattle.std.proofs.Common.{Option, None, Some}
 use borrow.Author.Tests.{ltb-true}
 use native.Mathlib.Omega.{arith}
 use lib.Dec.{ltb}
 use lib.ListN.{length, length-append}
-use Rattle.refusals.specs.Names.{LINE, OVERFLOW}
 use Rattle.lent.specs.Outcome.{Outcome, Gives, Refuses}
 use Rattle.hold_lines.specs.Text.{Held, lines_in, line_in}
 use Rattle.hold_figures.specs.Crews.{holds_of, total_of, is_signed64}
@@ -32,13 +32,15 @@ answer_short before (line ∷ lines) sound most =
   where
     by : (few : Bool) → ltb (length before) 100_000 ≡ few → (read : Option Held) → line_in line ≡ read →
         ((now : List Held) → Sound now → length now ≤ 100_000 → Short (year_answer (year_from now lines))) →
-        Short (year_answer (cond few (from_line read (λ h. with_total before h (λ now. year_from now lines))) (Refused LINE)))
+        Short
+        (year_answer
+        (cond few (from_line read (λ h. with_total before h (λ now. year_from now lines))) (Refused Refusals.Line)))
     by false e read r rest = tt
-    by true e none r rest = tt
-    by true e (some h) r rest = total (is_signed64 (total_of (holds_of h.crew (before ++ (h ∷ []))))) refl
+    by true e None r rest = tt
+    by true e (Some h) r rest = total (is_signed64 (total_of (holds_of h.crew (before ++ (h ∷ []))))) refl
       where
         total : (fits : Bool) → is_signed64 (total_of (holds_of h.crew (before ++ (h ∷ [])))) ≡ fits →
-            Short (year_answer (cond fits (year_from (before ++ (h ∷ [])) lines) (Refused OVERFLOW)))
+            Short (year_answer (cond fits (year_from (before ++ (h ∷ [])) lines) (Refused Refusals.Overflow)))
         total true k =
             rest (before ++ (h ∷ [])) (sound_more before h sound (line_limited line h r).hold k)
             (omega (arith, length-append before (h ∷ []), ltb-true (length before) 100_000 e))

@@ -6,15 +6,13 @@ use mathlib.Core.Path.{◌≡◌, refl, ap, ◌∙◌}
 use mathlib.Core.Bool.{Bool, true, false, cond}
 use mathlib.Core.List.{List, [], ◌∷◌}
 use native.Mathlib.Omega.{arith}
+use Rattle.refusals.specs.declared.Refusal.TheVariants as Refusals
+use Rattle.std.proofs.Common.{Option, Some, None}
 use lib.Dec.{eqb, leb, ltb}
 use lib.ListN.{length, get_or, set, length-set}
-use Rattle.refusals.specs.Names.{LINE}
 use Rattle.hold_lines.specs.Place.{stepped, closed}
 use Rattle.hold_lines.specs.declared.place.Line.{Line}
-use Rattle.hold_lines.specs.declared.place.Line.TheVariants as L
 use Rattle.hold_figures.specs.Words.{Tally, Grown, Stopped, raised_sum, with_crew, grown_by, tallied}
-use Rattle.hold_figures.specs.declared.figures.Sum.{Sum}
-use Rattle.hold_figures.specs.declared.figures.Sum.TheVariants as S
 use Rattle.hold_year.specs.Parts.{
   Going,
   On,
@@ -30,12 +28,13 @@ use Rattle.hold_year.specs.Parts.{
   Feeds,
 }
 use Rattle.hold_year.specs.declared.year.Reading.{Reading}
-use Rattle.hold_year.specs.declared.year.Fed.{Fed}
+use Rattle.std.specs.Prelude.{Result}
+use Rattle.refusals.specs.declared.Refusal.{Refusal}
 
 -- What goes on is so; nothing is claimed of a refusal.
 abbrev pub Holds : (Reading → List ℕ → Type 0) → Going → Type 0
 Holds Q (On t left) = Q t left
-Holds Q (Over n) = Unit {0}
+Holds Q (Over why) = Unit {0}
 
 -- The number counts the bytes that were fed.
 pub fed_holds : (Q : ℕ → Reading → List ℕ → Type 0) →
@@ -51,7 +50,7 @@ fed_holds Q step k s words (b ∷ text) q =
         ((t : Reading) (left : List ℕ) → Q (k + 1) t left → Holds (Q (k + 1 + length text)) (fed_by t left text)) →
         Holds (Q (k + 1 + length text)) (going_on g (λ t left. fed_by t left text))
     by (On t left) h rest = rest t left h
-    by (Over n) h rest = tt
+    by (Over why) h rest = tt
 
 -- ---- The number of the words.
 
@@ -71,16 +70,16 @@ tally_long lines crew hold words =
     by (leb crew 63) (eqb (get_or words (3 * crew) 0) 0) (ltb (get_or words (3 * crew) 0) 100_000)
     (raised_sum (get_or words (3 * crew + 1) 0) hold)
   where
-    by : (low first few : Bool) (sum : Sum) →
+    by : (low first few : Bool) (sum : Option ℕ) →
         Holds (Long (length words))
         (counting
         (cond low
-        (cond first (Grown (with_crew words crew 1 hold hold)) (cond few (grown_by words crew hold sum) (Stopped LINE)))
-        (Stopped LINE))
+        (cond first (Grown (with_crew words crew 1 hold hold)) (cond few (grown_by words crew hold sum) (Stopped Refusals.Line)))
+        (Stopped Refusals.Line))
         lines)
     by true true few sum = crew_long words crew 1 hold hold
-    by true false true (S.Of total) = crew_long words crew _ total _
-    by true false true S.Over = tt
+    by true false true (Some total) = crew_long words crew _ total _
+    by true false true None = tt
     by true false false sum = tt
     by false first few sum = tt
 
@@ -88,9 +87,10 @@ line_long : (s : Reading) (words : List ℕ) → Holds (Long (length words)) (li
 unfolding line_ended
 line_long s words = by (ltb s.lines 100_000) (closed s.place)
   where
-    by : (few : Bool) (line : Line) → Holds (Long (length words)) (cond few (line_taken line s.lines words) (Over LINE))
-    by true (L.Hold crew hold) = tally_long s.lines crew hold words
-    by true L.Broken = tt
+    by : (few : Bool) (line : Option Line) →
+        Holds (Long (length words)) (cond few (line_taken line s.lines words) (Over Refusals.Line))
+    by true (Some line) = tally_long s.lines line.crew line.raised words
+    by true None = tt
     by false line = tt
 
 byte_long : (n : ℕ) (s : Reading) (words : List ℕ) (b : ℕ) → length words ≡ n → Holds (Long n) (byte_fed s words b)
@@ -101,7 +101,7 @@ byte_long n s words b long = rw (← long) (by (eqb b 10) (is_broken (stepped s.
         Holds (Long (length words))
         (cond newline
         (line_ended s words)
-        (cond broken (Over LINE) (On (record { lines = s.lines; place = stepped s.place b }) words)))
+        (cond broken (Over Refusals.Line) (On (record { lines = s.lines; place = stepped s.place b }) words)))
     by true broken = line_long s words
     by false true = tt
     by false false = refl
@@ -110,13 +110,13 @@ pub fed_long : (n : ℕ) (s : Reading) (words text : List ℕ) → length words 
 fed_long n s words text long = fed_holds (λ k. Long n) (λ k. byte_long n) 0 s words text long
 
 -- The words of 64 crews are those of 64 crews behind a part, too.
-pub feeds_long : (s : Reading) (part lent left : List ℕ) (r : Fed) → Feeds s part lent left r → length lent ≡ 192 →
-    length left ≡ 192
+pub feeds_long : (s : Reading) (part lent left : List ℕ) (r : Result Reading Refusal) → Feeds s part lent left r →
+    length lent ≡ 192 → length left ≡ 192
 feeds_long s part lent left r feeds long = by (fed_by s lent part) (fed_long 192 s lent part long) feeds.words
   where
     by : (g : Going) → Holds (Long 192) g → left ≡ words_or_zero g → length left ≡ 192
     by (On t words) k e = rw e k
-    by (Over n) k e = ap length e
+    by (Over why) k e = ap length e
 
 -- ---- The place.
 
@@ -129,11 +129,11 @@ line_whole s words = by (ltb s.lines 100_000) (closed s.place)
   where
     counted : (t : Tally) → Holds Whole (counting t s.lines)
     counted (Grown left) = refl
-    counted (Stopped n) = tt
+    counted (Stopped why) = tt
 
-    by : (few : Bool) (line : Line) → Holds Whole (cond few (line_taken line s.lines words) (Over LINE))
-    by true (L.Hold crew hold) = counted (tallied words crew hold)
-    by true L.Broken = tt
+    by : (few : Bool) (line : Option Line) → Holds Whole (cond few (line_taken line s.lines words) (Over Refusals.Line))
+    by true (Some line) = counted (tallied words line.crew line.raised)
+    by true None = tt
     by false line = tt
 
 byte_whole : (s : Reading) (words : List ℕ) (b : ℕ) → Whole s words → Holds Whole (byte_fed s words b)
@@ -144,7 +144,7 @@ byte_whole s words b whole = by (eqb b 10) (is_broken (stepped s.place b)) refl
         Holds Whole
         (cond newline
         (line_ended s words)
-        (cond broken (Over LINE) (On (record { lines = s.lines; place = stepped s.place b }) words)))
+        (cond broken (Over Refusals.Line) (On (record { lines = s.lines; place = stepped s.place b }) words)))
     by true broken e = line_whole s words
     by false true e = tt
     by false false e = e

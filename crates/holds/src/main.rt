@@ -3,8 +3,8 @@
 
 ghost use Rattle.std.specs.Prelude.{◌≤◌, IfOk, length};
 
-use hold_year::year::Fed;
 use hold_year::{printing, year};
+use refusals::Refusal;
 use std::io;
 use std::io::{Read, Write};
 
@@ -24,9 +24,9 @@ fn read_full(input: &mut impl Read, buf: &mut [u8]) -> io::Result<usize>
 }
 
 // Writes the line of a refusal.
-fn refuse(output: &mut impl Write, number: u64) -> io::Result<()> {
+fn refuse(output: &mut impl Write, why: Refusal) -> io::Result<()> {
     let mut text = [0u8; 5386];
-    let length = printing::print_refusal(number, &mut text);
+    let length = printing::print_refusal(u64::from(why), &mut text);
     output.write_all(&text[..length])
 }
 
@@ -40,8 +40,8 @@ fn main(rt: HostRuntime) -> io::Result<()> {
     for _ in 0..214u64 {
         let n = read_full(&mut input, &mut part)?;
         match year::feed(reading, &part[..n], &mut figures) {
-            Fed::Refused(number) => return refuse(&mut output, number),
-            Fed::On(next) => reading = next,
+            Ok(next) => reading = next,
+            Err(why) => return refuse(&mut output, why),
         }
         if n < 16384 {
             break;

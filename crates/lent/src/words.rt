@@ -1,28 +1,16 @@
 // An answer in lent words: its words and zero after them, or zero throughout where it is refused
 // (docs/RULES.md, 4.12, 4.14 and 4.15).
-ghost use Rattle.std.specs.Prelude.{◌≡◌, ◌++◌, ◌≤◌, length, drop};
+#![tactic(auto, unfolding(crate::specs::Outcome::number_of, crate::specs::Outcome::room_of, crate::specs::Outcome::wiped))]
+
+ghost use Rattle.std.specs.Prelude.{◌≡◌};
 ghost use Rattle.lent.specs.Outcome.{Handed, Gives, Refuses, wiped};
 
 // Sets every word at or after `from` to 0.
 pub fn wipe_from(out: &mut [u64], from: usize)
     ensures { out.new ≡ wiped out.old from }
 {
-    let mut i = from;
-    while i < out.len() {
-        out[i] = 0;
-        i += 1;
-    }
-}
-
-// Copies `words` to the front of `out`.
-fn copy_to_front(out: &mut [u64], words: &[u64])
-    requires { length words.now ≤ length out.old }
-    ensures { out.new ≡ words.now ++ drop (length words.now) out.old }
-{
-    let mut i = 0;
-    while i < words.len() {
-        out[i] = words[i];
-        i += 1;
+    if from < out.len() {
+        out[from..].fill(0);
     }
 }
 
@@ -34,9 +22,8 @@ pub fn hand_over(out: &mut [u64], words: &[u64]) -> u64
         wipe_from(out, 0);
         return refusals::NO_ROOM;
     }
-    let n = words.len();
-    copy_to_front(out, words);
-    wipe_from(out, n);
+    out[..words.len()].copy_from_slice(words);
+    wipe_from(out, words.len());
     0
 }
 

@@ -28,7 +28,6 @@ use Rattle.times.proofs.Integers.{sum_mono}
 use Rattle.times.proofs.Seconds.{seconds_mono, seconds_finite}
 use Rattle.times.proofs.Spans.{span_from}
 use Rattle.root.specs.Root.{IsRoot}
-use Rattle.root.specs.declared.nearest.Root.TheVariants as R
 use Rattle.root.proofs.Given.{root_given}
 use Rattle.root.proofs.Meets.{meets}
 use Rattle.root.proofs.Size.{Fine, root_fine}
@@ -47,16 +46,13 @@ use Rattle.courses.specs.Norm.{norm_of, direction_of}
 use Rattle.line_proximity.specs.NearLine.{across_quadratic, outlasting, ended_by, past_end, spell_of, near_line}
 use Rattle.courses.specs.Course.{run_of, course_of}
 use Rattle.line_proximity.specs.Asked.{is_stay}
-use Rattle.line_proximity.specs.declared.stationary.Stay.{Stay}
-use Rattle.line_proximity.specs.declared.stationary.Stay.TheVariants as S
-use Rattle.courses.specs.declared.norm.Direction.{Direction}
-use Rattle.courses.specs.declared.norm.Direction.TheVariants as D
 use Rattle.courses.specs.declared.course.Run.{Run}
-use Rattle.courses.specs.declared.course.Ran.TheVariants as N
 use Rattle.courses.specs.declared.course.Course.{Course}
-use Rattle.courses.specs.declared.course.Heading.{Heading}
-use Rattle.courses.specs.declared.course.Heading.TheVariants as H
 use Rattle.line_proximity.proofs.StationaryGiven.{Ordered, stationary_ordered}
+use Rattle.std.specs.Prelude.{Result, Ok, Err}
+use Rattle.root.specs.declared.nearest.NoRoot.{NoRoot}
+use Rattle.std.specs.Prelude.{Option, Some, None}
+use Rattle.refusals.specs.declared.Refusal.{Refusal}
 
 -- ---- A leg in motion.
 
@@ -73,7 +69,7 @@ pub record Steady (run : Run) : Type 0 where
 -- It is given, and such a one.
 pub record Runs (leg : Leg) : Type 0 where
   pub run : Run
-  pub ran : run_of leg ≡ N.Of run
+  pub ran : run_of leg ≡ Ok run
   pub steady : Steady run
 
 -- From a whole number to a larger one it is 1 or more.
@@ -131,7 +127,7 @@ leg_runs leg e rising =
 -- The norm is given, finite and 0 or more (RULES 2.13).
 pub record Normed (v : Vector) : Type 0 where
   pub length : Float
-  pub given : norm_of v ≡ R.Of length
+  pub given : norm_of v ≡ Ok length
   pub fine : Fine length
 
 -- Where the squares of the bound have a finite sum.
@@ -178,10 +174,10 @@ module _ (p q : Vector) (hp : is_place p ≡ true) (hq : is_place q ≡ true) wh
       P.spans_le steepest (P.spans_divided hundred_millionth n way_spans (lt→le hundred_millionth n above) f.is_finite_law tt tt) (unfold le in tt)
 
 -- Never a refusal, and a direction within the bound.
-abbrev pub Directed : Direction → Type 0
-Directed (D.Along u) = Spans steepest u
-Directed D.Missing = Unit
-Directed D.Refused = ⊥
+abbrev pub Directed : Result (Option Vector) NoRoot → Type 0
+Directed (Ok (Some u)) = Spans steepest u
+Directed (Ok None) = Unit
+Directed (Err _) = ⊥
 
 -- Of a leg in motion (RULES 2.14, 10.10).
 pub direction_given : (run : Run) → Steady run → Directed (direction_of (vector_difference run.to run.from))
@@ -191,7 +187,7 @@ direction_given run h =
     rw n.given (by n.fine _ refl)
   where
     by : {n : Float} → Fine n → (b : Bool) → lt hundred_millionth n ≡ b →
-        Directed (cond b (D.Along (divided (vector_difference run.to run.from) n)) D.Missing)
+        Directed (cond b (Ok (Some (divided (vector_difference run.to run.from) n))) (Ok None))
     by f true e = direction_spans run.from run.to h.from_place h.to_place f (passed e)
     by f false e = tt
 
@@ -199,7 +195,7 @@ direction_given run h =
 
 -- Longer than 1e-8, on the run of the leg, with all numbers finite (RULES 10.1, 10.2).
 pub record Charted (leg : Leg) (c : Course) : Type 0 where
-  pub ran : run_of leg ≡ N.Of c.run
+  pub ran : run_of leg ≡ Ok c.run
   pub steady : Steady c.run
   pub direction_within : Spans steepest c.direction
   pub long : hundred_millionth ≺ c.distance
@@ -207,10 +203,10 @@ pub record Charted (leg : Leg) (c : Course) : Type 0 where
   pub speed_fine : Fine c.speed
 
 -- Never a refusal, and a course such a one.
-abbrev pub Headed : Leg → Heading → Type 0
-Headed leg (H.Along c) = Charted leg c
-Headed leg H.Missing = Unit
-Headed leg (H.Refused n) = ⊥
+abbrev pub Headed : Leg → Result (Option Course) Refusal → Type 0
+Headed leg (Ok (Some c)) = Charted leg c
+Headed leg (Ok None) = Unit
+Headed leg (Err _) = ⊥
 
 -- A leg of the table that rises is refused neither 1 nor 7 (RULES 4.1, 4.7, 10.1, 10.2).
 pub course_given : (leg : Leg) → is_leg leg ≡ true → is_rising leg ≡ true → Headed leg (course_of leg)
@@ -235,7 +231,7 @@ course_given leg e rising =
 
     by : (n : Normed (vector_difference to from)) (r : Runs leg) (s : Normed r.run.velocity) (b : Bool) → lt hundred_millionth n.length ≡ b →
         let u = divided (vector_difference to from) n.length in
-        Headed leg (cond b (H.Along (record { run = r.run; direction = u; distance = n.length; speed = s.length })) H.Missing)
+        Headed leg (cond b (Ok (Some (record { run = r.run; direction = u; distance = n.length; speed = s.length }))) (Ok None))
     by n r s true f =
         record {
           ran = r.ran;
@@ -250,10 +246,10 @@ course_given leg e rising =
 -- ---- Stays near a place.
 
 -- Never a refusal.
-abbrev pub Answered : Stay → Type 0
-Answered (S.Between t u) = Unit
-Answered S.Nothing = Unit
-Answered S.Refused = ⊥
+abbrev pub Answered : Result (Option (Float × Float)) NoRoot → Type 0
+Answered (Ok (Some (t, u))) = Unit
+Answered (Ok None) = Unit
+Answered (Err _) = ⊥
 
 -- Of places, a velocity and a limit of the table (RULES 10.37 to 10.39).
 pub stationary_answered : (r p0 v : Vector) (limit : Float) →
@@ -263,10 +259,10 @@ stationary_answered r p0 v limit hr hp hv hl =
     answered (stationary_proximity r p0 v limit)
     (stationary_ordered r p0 v limit (rw (hr, hp, hv.x_speed, hv.y_speed, hl)))
   where
-    answered : (s : Stay) → Ordered s → Answered s
-    answered (S.Between t u) h = tt
-    answered S.Nothing h = tt
-    answered S.Refused h = h
+    answered : (s : Result (Option (Float × Float)) NoRoot) → Ordered s → Answered s
+    answered (Ok (Some (t, u))) h = tt
+    answered (Ok None) h = tt
+    answered (Err _) h = h
 
 -- About a place, on a leg in motion from its start (RULES 10.24, 10.28).
 pub run_stationary_answered : {run : Run} (r : Vector) (limit : Float) →
@@ -277,7 +273,7 @@ run_stationary_answered {run} r limit h hr hl =
 -- ---- Stays near a line.
 
 -- Whichever way a test goes.
-either : (b : Bool) (x y : Stay) → (b ≡ true → Answered x) → (b ≡ false → Answered y) → Answered (cond b x y)
+either : (b : Bool) (x y : Result (Option (Float × Float)) NoRoot) → (b ≡ true → Answered x) → (b ≡ false → Answered y) → Answered (cond b x y)
 either true x y h k = h refl
 either false x y h k = k refl
 
@@ -297,10 +293,10 @@ across_finite hq hu hp hv hl =
     let four-ac = within_mul binary64 (within_mul binary64 four_within a tt tt) c tt tt in
     within_finite (within_sub binary64 bb four-ac tt tt) tt
 
-ended_answered : (s : Stay) (begin end : Float) → Answered s → Answered (ended_by s begin end)
-ended_answered (S.Between t u) begin end h = tt
-ended_answered S.Nothing begin end h = tt
-ended_answered S.Refused begin end h = h
+ended_answered : (s : Result (Option (Float × Float)) NoRoot) (begin end : Float) → Answered s → Answered (ended_by s begin end)
+ended_answered (Ok (Some (t, u))) begin end h = tt
+ended_answered (Ok None) begin end h = tt
+ended_answered (Err _) begin end h = h
 
 spell_answered : (r u p0 v : Vector) (dt limit first last : Float) →
     Answered (stationary_proximity r p0 v limit) → Answered (spell_of r u p0 v dt limit first last)

@@ -14,23 +14,25 @@ use Rattle.floats.proofs.Tests.{passed}
 use Rattle.floats.proofs.Bounds.{within_finite, within_mul, within_sub}
 use Rattle.floats.proofs.Meeting.{within_dot, two_within, four_within, finite_roots_in_order}
 use Rattle.times.proofs.Exact.{both}
-use Rattle.root.specs.Root.{root_of, with_root}
+use Rattle.root.specs.Root.{root_of, with_root, no_root}
 use Rattle.root.proofs.Given.{root_given}
 use Rattle.domain.specs.Domain.{is_coordinate, is_place, is_speed, is_limit}
 use Rattle.shapes.specs.declared.vector.Vector.{Vector}
 use Rattle.domain.proofs.Within.{swiftest, coordinate_within, speed_within, limit_within}
 use Rattle.line_proximity.specs.Stationary.{stationary_quadratic, stationary_proximity}
-use Rattle.line_proximity.specs.Asked.{is_stay, asked_stationary}
+use Rattle.line_proximity.specs.Asked.{is_stay, rooted, asked_stationary}
 use Rattle.motions.specs.declared.quadratic.Quadratic.{Quadratic}
-use Rattle.line_proximity.specs.declared.stationary.Stay.{Stay}
-use Rattle.line_proximity.specs.declared.stationary.Stay.TheVariants.{Between, Nothing, Refused}
 use Rattle.proximity.proofs.Roots.{root_not_below}
+use Rattle.std.specs.Prelude.{Result, Ok, Err}
+use Rattle.std.specs.Prelude.{Option, Some, None}
+use Rattle.root.specs.declared.nearest.NoRoot.{NoRoot}
+use Rattle.refusals.specs.declared.Refusal.TheVariants as Refusals
 
 -- Never a refusal, and roots in order.
-abbrev pub Ordered : Stay → Type 0
-Ordered (Between t u) = le t u ≡ true
-Ordered Nothing = Unit
-Ordered Refused = ⊥
+abbrev pub Ordered : {E : Type 0} → Result (Option (Float × Float)) E → Type 0
+Ordered (Ok (Some (t, u))) = le t u ≡ true
+Ordered (Ok None) = Unit
+Ordered (Err _) = ⊥
 
 -- What must be finite is: b, 2a and the radicand.
 record Tame (q : Quadratic) : Type 0 where
@@ -72,8 +74,8 @@ stay_tame r p0 v limit e =
 
 module _ (q : Quadratic) (h : Tame q) where
   tame_ordered : (b : Bool) → (le hundred_millionth q.a && le nought (radicand q.a q.b q.c)) ≡ b →
-      Ordered (cond b (with_root Refused (root_of (radicand q.a q.b q.c)) (λ s.
-      Between (lower q.a q.b s) (upper q.a q.b s))) Nothing)
+      Ordered (cond b (with_root no_root (root_of (radicand q.a q.b q.c)) (λ s.
+      Ok (Some (lower q.a q.b s, upper q.a q.b s)))) (Ok None))
   tame_ordered true e =
       let r = radicand q.a q.b q.c in
       let tests = both (le hundred_millionth q.a) (le nought r) e in
@@ -87,13 +89,20 @@ pub stationary_ordered : (r p0 v : Vector) (limit : Float) →
 unfolding stationary_proximity
 stationary_ordered r p0 v limit e = tame_ordered (stationary_quadratic r p0 v limit) (stay_tame r p0 v limit e) _ refl
 
+rooted_ordered : (s : Result (Option (Float × Float)) NoRoot) → Ordered s → Ordered (rooted s)
+rooted_ordered (Ok (Some (t, u))) h = h
+rooted_ordered (Ok None) h = h
+rooted_ordered (Err _) h = h
+
 -- The call is refused for numbers outside the table, and for no others.
 pub refused_outside : (r p0 v : Vector) (limit : Float) →
-    (asked_stationary r p0 v limit ≡ Refused) ↔ (is_stay r p0 v limit ≡ false)
+    (asked_stationary r p0 v limit ≡ Err Refusals.Number) ↔ (is_stay r p0 v limit ≡ false)
 unfolding asked_stationary
 refused_outside r p0 v limit = by (is_stay r p0 v limit) refl
   where
     by : (b : Bool) → is_stay r p0 v limit ≡ b →
-        (cond b (stationary_proximity r p0 v limit) Refused ≡ Refused) ↔ (b ≡ false)
-    by true e = ((λ f. absurd (subst Ordered f (stationary_ordered r p0 v limit e))), (λ f. absurd (true≢false f)))
+        (cond b (rooted (stationary_proximity r p0 v limit)) (Err Refusals.Number) ≡ Err Refusals.Number) ↔ (b ≡ false)
+    by true e =
+        let given = rooted_ordered (stationary_proximity r p0 v limit) (stationary_ordered r p0 v limit e) in
+        ((λ f. absurd (subst Ordered f given)), (λ f. absurd (true≢false f)))
     by false e = ((λ f. refl), (λ f. refl))

@@ -4,16 +4,8 @@ ghost use Rattle.line_proximity.specs.Stationary.{stationary_quadratic, stationa
 
 use motions::quadratic::Quadratic;
 use root::nearest;
-use root::nearest::Root;
+use root::nearest::NoRoot;
 use shapes::vector::Vector;
-
-// The seconds at which it comes within the distance and leaves it, nothing, or refusal 1: the radicand has no root.
-#[derive(Clone, Copy)]
-pub enum Stay {
-    Between(f64, f64),
-    Nothing,
-    Refused,
-}
 
 // The quadratic of something that is at p0 and goes by v, about the place r.
 fn stationary_quadratic(r: Vector, p0: Vector, v: Vector, limit: f64) -> Quadratic
@@ -28,20 +20,26 @@ fn stationary_quadratic(r: Vector, p0: Vector, v: Vector, limit: f64) -> Quadrat
     }
 }
 
-pub fn compute_stationary_proximity(r: Vector, p0: Vector, v: Vector, limit: f64) -> Stay
+// The seconds at which something comes within the distance and leaves it; none where it hardly moves or is never so near.
+#[tactic(auto, unfolding(crate::specs::Stationary::stationary_proximity))]
+pub fn compute_stationary_proximity(
+    r: Vector,
+    p0: Vector,
+    v: Vector,
+    limit: f64,
+) -> Result<Option<(f64, f64)>, NoRoot>
     ensures { result ≡ stationary_proximity r p0 v limit }
 {
     let q = stationary_quadratic(r, p0, v, limit);
     if !(q.a >= 1e-8) {
-        return Stay::Nothing;
+        return Ok(None);
     }
     let radicand = q.b * q.b - (4.0 * q.a) * q.c;
     if !(radicand >= 0.0) {
-        return Stay::Nothing;
+        return Ok(None);
     }
-    let root = nearest::square_root(radicand);
-    let Root::Of(s) = root else {
-        return Stay::Refused;
-    };
-    Stay::Between((-q.b - s) / (2.0 * q.a), (-q.b + s) / (2.0 * q.a))
+    let s = nearest::square_root(radicand)?;
+    let first = (-q.b - s) / (2.0 * q.a);
+    let last = (-q.b + s) / (2.0 * q.a);
+    Ok(Some((first, last)))
 }

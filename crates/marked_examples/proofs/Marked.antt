@@ -24,7 +24,7 @@ use Rattle.courses.specs.Course.{run_of, course_of}
 use Rattle.line_proximity.specs.NearLine.{across_quadratic, outlasting, past_end, spell_of, near_line}
 use Rattle.courses.specs.Norm.{norm_of, direction_of}
 use Rattle.line_proximity.specs.Stationary.{stationary_proximity}
-use Rattle.hint_list.specs.Hint.{is_placed}
+use Rattle.hint_list.specs.Hint.{is_placed, is_within_million}
 use Rattle.hint_list.specs.Hints as W
 use Rattle.hint_waits.specs.Crossing.{before_crossing, beside_line, crossing_wait}
 use Rattle.hint_waits.specs.Parts.{agent_after}
@@ -67,7 +67,7 @@ unfolding asked_proximity asked_conflict carts_examined legs_examined asked_hint
     incorporating inflated box_of_leg overlap place_of vector_sum vector_difference scaled divided dot_of proximity_of long_range meeting_from
     motion_at holds is_inside by_roots passage conflict_of closing_at entered_at segment_of obstacle_verdict first_of leg_verdict
     is_during run_of course_of across_quadratic outlasting past_end spell_of near_line norm_of direction_of stationary_proximity
-    W.one_hint W.one_wait W.found_then is_placed crossing_wait beside_line before_crossing
+    W.one_hint W.one_wait W.found_then is_within_million is_placed crossing_wait beside_line before_crossing
     agent_after standing_wait hints_of near_obstacles near_obstacle near_legs near_leg other_of gaps_of leg_hints part_hints part_of ranked_hints measured_by
     graded_onto grade_of contour_of scale_of inserted arrivals_at watched_all
     watched_legs standing_leg near_of arrivals legs_in watched_obstacles search turn sweep adjust look meets follows soonest next next_in

@@ -26,6 +26,9 @@ use Rattle.plan_model.specs.Plan.{Plan, Planned, Refused}
 use Rattle.request_format.specs.Crossing.{crossing_stream}
 use Rattle.texts.specs.Letters.{bytes_of}
 use Rattle.reply.specs.Text.{stream_text}
+use Rattle.std.specs.Prelude.{Result, Ok, Err}
+use Rattle.refusals.specs.declared.Refusal.{Refusal}
+use Rattle.refusals.specs.declared.Refusal.TheVariants as Refusals
 
 -- ---- Numbers.
 
@@ -141,7 +144,7 @@ pub record Marked : Type 0 where
   -- The limit is 1 (RULES, section 16).
   pub limit : critical_distance_squared cart cart ≡ one
   -- A cart that passes is near from 2 s to 4 s: listed are the time asked for and its exit (RULES 16.1).
-  pub p1_near : asked_proximity one (stay 6_000) (way minus_three zero three zero 6_000) ≡ P.Passes (at 2_000) (at 4_000)
+  pub p1_near : asked_proximity one (stay 6_000) (way minus_three zero three zero 6_000) ≡ Ok (P.Passes (at 2_000) (at 4_000))
   pub p1 : asked_arrivals cart (here 0) passing ≡ A.Answered (at 0 ∷ (at 4_000 ∷ [])) 2
   -- Asked while it is near, its exit (RULES 16.2).
   pub p2 : asked_arrivals cart (here 3_000) passing ≡ A.Answered (at 4_000 ∷ []) 2
@@ -150,17 +153,17 @@ pub record Marked : Type 0 where
   -- Asked while it is near, none (RULES 16.4).
   pub p4 : asked_arrivals cart (here 2_500) stopping ≡ A.Answered [] 2
   -- A cart that touches the clearance and turns away leaves the search stuck (RULES 16.5).
-  pub p5 : asked_arrivals cart (here 0) turning ≡ A.Refused 8
+  pub p5 : asked_arrivals cart (here 0) turning ≡ A.Refused Refusals.Stuck
   -- A cart that creeps away over the limit is refused (RULES 16.6),
-  pub p6 : asked_proximity one (stay 1_000_000) (way one zero little zero 1_000_000) ≡ P.Refused 5
+  pub p6 : asked_proximity one (stay 1_000_000) (way one zero little zero 1_000_000) ≡ Err Refusals.Creep
   -- and one that creeps within it stays near (RULES 16.7).
-  pub p7 : asked_proximity one (stay 1_000_000) (way half zero less zero 1_000_000) ≡ P.Enters (at 0)
+  pub p7 : asked_proximity one (stay 1_000_000) (way half zero less zero 1_000_000) ≡ Ok (P.Enters (at 0))
   -- Two carts that drive at one another are in conflict (RULES 16.8).
-  pub p8_near : asked_proximity one ahead oncoming ≡ P.Passes (at 4_500) (at 5_500)
-  pub p8 : asked_conflict cart ahead cart oncoming one ≡ J.Conflict
+  pub p8_near : asked_proximity one ahead oncoming ≡ Ok (P.Passes (at 4_500) (at 5_500))
+  pub p8 : asked_conflict cart ahead cart oncoming one ≡ (Ok J.Conflict)
   -- A cart that touches the clearance and drives on is not (RULES 16.9).
-  pub p9_near : asked_proximity one (stay 6_000) (way minus_three one three one 6_000) ≡ P.Passes (at 3_000) (at 3_000)
-  pub p9 : asked_conflict cart (stay 6_000) cart (way minus_three one three one 6_000) one ≡ J.Clear
+  pub p9_near : asked_proximity one (stay 6_000) (way minus_three one three one 6_000) ≡ Ok (P.Passes (at 3_000) (at 3_000))
+  pub p9 : asked_conflict cart (stay 6_000) cart (way minus_three one three one 6_000) one ≡ (Ok J.Clear)
   -- Crossing has one hint (RULES 16.10),
   pub p10_hints : asked_hints cart ahead crossing ≡
       R.Of (record {
@@ -185,7 +188,7 @@ pub record Marked : Type 0 where
       (bytes_of "move 4000000000 4010000000000000 0000000000000000\n" ++
       (bytes_of "wait 0 6000000000\n" ++ bytes_of "move 12000000000 4024000000000000 0000000000000000\n")))
   -- without a pop it is refused (RULES 13.21).
-  pub p10_spent : plan_with 0 ≡ Refused 11
+  pub p10_spent : plan_with 0 ≡ Refused Refusals.Spent
   -- The same way in 9 ns is one Move (RULES 13.4, 15.9).
   pub p10_brief : asked_plan cart brief 4_096 crossing ≡
       Planned 0 0 0 (record { arrival = record { 0 = pos 9 }; pops = 0; hold = lasting 0; actions = Move brief.end ∷ [] } ∷ [])

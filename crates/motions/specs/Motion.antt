@@ -8,8 +8,11 @@ use Rattle.times.specs.declared.time.TimePoint.{TimePoint}
 use Rattle.shapes.specs.Leg.{holds}
 use Rattle.shapes.specs.declared.waypoint.Leg.{Leg}
 use Rattle.shapes.specs.declared.vector.Vector.{Vector}
-use Rattle.motions.specs.declared.motion.Motion.{Motion}
-use Rattle.motions.specs.declared.motion.Motion.TheVariants.{At, Outside, Strayed}
+use Rattle.std.specs.Prelude.{Result, Ok}
+use Rattle.std.specs.Prelude.{Option, Some, None}
+use Rattle.times.specs.Time.{strayed}
+use Rattle.times.specs.declared.time.Strayed.{Strayed}
+use Rattle.motions.specs.declared.motion.State.{State}
 
 -- End minus start, over the seconds that the leg lasts (RULES 8.1).
 abbrev pub velocity_over : Leg → Float → Vector
@@ -28,11 +31,11 @@ place_after leg v seconds =
     }
 
 -- The leg at t. The Rust works out how long the leg lasts before it asks whether its times hold t (RULES 8.2, 8.8).
-unfoldable pub motion_at : Leg → TimePoint → Motion
+unfoldable pub motion_at : Leg → TimePoint → Result (Option State) Strayed
 motion_at leg t =
-    with_span Strayed (span_between leg.start.time leg.end.time) (λ lasts.
+    with_span strayed (span_between leg.start.time leg.end.time) (λ lasts.
     cond (holds leg t)
-    (with_span Strayed (span_between leg.start.time t) (λ gone.
+    (with_span strayed (span_between leg.start.time t) (λ gone.
     let v = velocity_over leg (seconds_of lasts.0) in
-    At (record { place = place_after leg v (seconds_of gone.0); velocity = v })))
-    Outside)
+    Ok (Some (record { place = place_after leg v (seconds_of gone.0); velocity = v }))))
+    (Ok None))

@@ -4,21 +4,13 @@ ghost use Rattle.motions.specs.Motion.{velocity_over, place_after, motion_at};
 
 use shapes::vector::Vector;
 use shapes::waypoint::Leg;
-use times::time::{Span, TimePoint};
+use times::time::{Strayed, TimePoint};
 
 // A place and a velocity.
 #[derive(Clone, Copy)]
 pub struct State {
     pub place: Vector,
     pub velocity: Vector,
-}
-
-// A leg at an instant: its state, that its times do not hold the instant, or refusal 7.
-#[derive(Clone, Copy)]
-pub enum Motion {
-    At(State),
-    Outside,
-    Strayed,
 }
 
 // The velocity of a leg that lasts so many seconds.
@@ -41,25 +33,17 @@ fn place_after(leg: Leg, v: Vector, seconds: f64) -> Vector
     }
 }
 
-// The leg at the instant t.
-pub fn motion_at(leg: Leg, t: TimePoint) -> Motion
+// The leg at the instant t, or nothing where its times do not hold t.
+#[tactic(auto, unfolding(crate::specs::Motion::motion_at))]
+pub fn motion_at(leg: Leg, t: TimePoint) -> Result<Option<State>, Strayed>
     ensures { result ≡ motion_at leg t }
 {
-    let whole = leg.end.time.since(leg.start.time);
-    let Span::Of(lasts) = whole else {
-        return Motion::Strayed;
-    };
+    let lasts = leg.end.time.since(leg.start.time)?;
     if !leg.in_range(t) {
-        return Motion::Outside;
+        return Ok(None);
     }
-    let part = t.since(leg.start.time);
-    let Span::Of(gone) = part else {
-        return Motion::Strayed;
-    };
-    let v = velocity_over(leg, lasts.as_secs_f64());
-    let p = place_after(leg, v, gone.as_secs_f64());
-    Motion::At(State {
-        place: p,
-        velocity: v,
-    })
+    let gone = t.since(leg.start.time)?;
+    let velocity = velocity_over(leg, lasts.as_secs_f64());
+    let place = place_after(leg, velocity, gone.as_secs_f64());
+    Ok(Some(State { place, velocity }))
 }

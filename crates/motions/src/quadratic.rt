@@ -3,7 +3,8 @@ ghost use Rattle.std.specs.Prelude.{◌≡◌};
 ghost use Rattle.motions.specs.Quadratic.{quadratic_of, meeting_from};
 
 use crate::motion;
-use crate::motion::{Motion, State};
+use crate::motion::State;
+use refusals::Refusal;
 use shapes::waypoint::Leg;
 use times::time::TimePoint;
 
@@ -13,13 +14,6 @@ pub struct Quadratic {
     pub a: f64,
     pub b: f64,
     pub c: f64,
-}
-
-// The quadratic of two legs, or a refusal and its number.
-#[derive(Clone, Copy)]
-pub enum Meeting {
-    Of(Quadratic),
-    Refused(u64),
 }
 
 // The quadratic of the agent's state p and the obstacle's state q.
@@ -38,20 +32,16 @@ fn quadratic_of(limit: f64, p: State, q: State) -> Quadratic
 }
 
 // The quadratic of the agent's leg and an obstacle's, from t0 on. A leg that has no place then is where the Rust panics.
-pub fn meeting_from(limit: f64, agent: Leg, obstacle: Leg, t0: TimePoint) -> Meeting
+#[tactic(auto, unfolding(crate::specs::Quadratic::meeting_from))]
+pub fn meeting_from(
+    limit: f64,
+    agent: Leg,
+    obstacle: Leg,
+    t0: TimePoint,
+) -> Result<Quadratic, Refusal>
     ensures { result ≡ meeting_from limit agent obstacle t0 }
 {
-    let first = motion::motion_at(agent, t0);
-    match first {
-        Motion::Strayed => Meeting::Refused(refusals::STRAYED),
-        Motion::Outside => Meeting::Refused(refusals::APART),
-        Motion::At(p) => {
-            let second = motion::motion_at(obstacle, t0);
-            match second {
-                Motion::Strayed => Meeting::Refused(refusals::STRAYED),
-                Motion::Outside => Meeting::Refused(refusals::APART),
-                Motion::At(q) => Meeting::Of(quadratic_of(limit, p, q)),
-            }
-        }
-    }
+    let p = motion::motion_at(agent, t0)?.ok_or(Refusal::Apart)?;
+    let q = motion::motion_at(obstacle, t0)?.ok_or(Refusal::Apart)?;
+    Ok(quadratic_of(limit, p, q))
 }

@@ -4,17 +4,15 @@ ghost use Rattle.root.specs.Root.{root_of, root_outcome};
 
 use lent::words;
 use number_words::word;
+use refusals::Refusal;
 use root::nearest;
-use root::nearest::Root;
 
 // The root of x, rounded to the nearest double.
 pub fn igelbert_square_root(x: f64, out: &mut [u64]) -> u64
     ensures { Handed (root_outcome (root_of x)) out.old out.new result }
 {
-    let r = nearest::square_root(x);
-    let Root::Of(y) = r else {
-        return words::refuse(out, refusals::NUMBER);
-    };
-    let w = [word::of_double(y)];
-    words::hand_over(out, &w)
+    match nearest::square_root(x) {
+        Ok(y) => words::hand_over(out, &[word::of_double(y)]),
+        Err(why) => words::refuse(out, u64::from(Refusal::from(why))),
+    }
 }

@@ -14,8 +14,6 @@ use Rattle.path_actions.specs.Built as B
 use Rattle.path_actions.specs.Built.{Built}
 use Rattle.path_actions.specs.Laid.{PutActions}
 use Rattle.path_actions.specs.declared.action.SafeAction.{SafeAction}
-use Rattle.path_actions.specs.declared.building.Hold.{Hold}
-use Rattle.path_actions.specs.declared.building.Hold.TheVariants as H
 use Rattle.path_actions.proofs.Rowed.{actions_fours}
 use Rattle.path_actions.proofs.Known.{actions_of, held_is, unheld_is}
 use Rattle.path_actions.proofs.Counted.{Counts}
@@ -25,9 +23,11 @@ use Rattle.one_path.specs.Laid.{PutPath, found_of}
 use Rattle.one_path.specs.declared.arrival_path.Found.{Found}
 use Rattle.one_path.specs.declared.arrival_path.Found.TheVariants as F
 use Rattle.one_path.proofs.Known.{actions_in}
+use Rattle.std.specs.Prelude.{Result, Ok, Err}
+use Rattle.refusals.specs.declared.Refusal.{Refusal}
 
 -- A refusal keeps nothing of the room, whichever row it was to begin at.
-pub put_wiped : {lent left : List ℕ} {row : ℕ} (n : ℕ) → left ≡ wiped lent 0 → PutPath (P.Refused n) lent left row (F.Refused n)
+pub put_wiped : {lent left : List ℕ} {row : ℕ} (n : Refusal) → left ≡ wiped lent 0 → PutPath (P.Refused n) lent left row (Err n)
 unfolding found_of
 put_wiped {lent} {left} n wipes =
     let zeros : left ≡ replicate (length lent) 0 = wipes ∙ wiped_whole lent in
@@ -39,18 +39,18 @@ put_wiped {lent} {left} n wipes =
       refused = λ m e. zeros;
     }
 
-pub put_refused : {lent left : List ℕ} {row other : ℕ} {r : Found} (n : ℕ) →
+pub put_refused : {lent left : List ℕ} {row other : ℕ} {r : Result Found Refusal} (n : Refusal) →
     PutPath (P.Refused n) lent left other r → PutPath (P.Refused n) lent left row r
 put_refused n p =
     record { found = p.found; long = p.long; rows = λ actions pops d e. cc; none = p.none; refused = p.refused }
 
-pub put_missing : {lent : List ℕ} {row : ℕ} (pops : ℕ) → PutPath (P.Missing pops) lent lent row (F.Missing pops)
+pub put_missing : {lent : List ℕ} {row : ℕ} (pops : ℕ) → PutPath (P.Missing pops) lent lent row (Ok (F.Missing pops))
 unfolding found_of
 put_missing pops = record { found = refl; long = refl; rows = λ actions p d e. cc; none = λ p e. refl; refused = λ n e. cc }
 
 pub put_path : {lent left : List ℕ} {row : ℕ} (actions : List SafeAction) (pops : ℕ) (hold : Duration) →
     left ≡ with_rows lent row (action_rows actions) →
-    PutPath (P.Path actions pops hold) lent left row (F.Path (length actions) pops hold)
+    PutPath (P.Path actions pops hold) lent left row (Ok (F.Path (length actions) pops hold))
 unfolding found_of
 put_path {lent} {left} {row} actions pops hold put =
     record {
@@ -67,7 +67,7 @@ pops_back : (b : Built) (pops p : ℕ) (actions : List SafeAction) (d : Duration
 pops_back (B.Of more hold) pops p actions d e = cc
 pops_back (B.Refused n) pops p actions d e = cc
 
-refused_back : (b : Built) (pops n : ℕ) → with_pops pops b ≡ P.Refused n → b ≡ B.Refused n
+refused_back : (b : Built) (pops : ℕ) (n : Refusal) → with_pops pops b ≡ P.Refused n → b ≡ B.Refused n
 refused_back (B.Of more hold) pops n e = cc
 refused_back (B.Refused m) pops n e = cc
 
@@ -75,7 +75,7 @@ never_missing : {lent left : List ℕ} (b : Built) (pops p : ℕ) → with_pops 
 never_missing (B.Of more hold) pops p e = cc
 never_missing (B.Refused n) pops p e = cc
 
-put_along : {lent left : List ℕ} {row : ℕ} {r : Hold} {found : Found} (b : Built) (pops : ℕ) →
+put_along : {lent left : List ℕ} {row : ℕ} {r : Result Duration Refusal} {found : Result Found Refusal} (b : Built) (pops : ℕ) →
     PutActions b lent left row r → found ≡ found_of (with_pops pops b) → PutPath (with_pops pops b) lent left row found
 put_along b pops p e =
     record {
@@ -86,18 +86,18 @@ put_along b pops p e =
       refused = λ n f. p.refused n (refused_back b pops n f);
     }
 
-module _ {lent left : List ℕ} {row : ℕ} {r : Hold} (b : Built) (pops : ℕ) (p : PutActions b lent left row r) where
-  abbrev found_with : Built → Found
+module _ {lent left : List ℕ} {row : ℕ} {r : Result Duration Refusal} (b : Built) (pops : ℕ) (p : PutActions b lent left row r) where
+  abbrev found_with : Built → Result Found Refusal
   found_with x = found_of (with_pops pops x)
 
-  pub along_refused : (n : ℕ) → r ≡ H.Refused n → PutPath (with_pops pops b) lent left row (F.Refused n)
+  pub along_refused : (n : Refusal) → r ≡ Err n → PutPath (with_pops pops b) lent left row (Err n)
   unfolding found_of
   along_refused n e = put_along b pops p (sym (ap found_with (unheld_is b n (sym p.hold ∙ e))))
 
-  pub along_found : (many : ℕ) (hold : Duration) → Counts many b → r ≡ H.Of hold →
-      PutPath (with_pops pops b) lent left row (F.Path many pops hold)
+  pub along_found : (many : ℕ) (hold : Duration) → Counts many b → r ≡ Ok hold →
+      PutPath (with_pops pops b) lent left row (Ok (F.Path many pops hold))
   unfolding found_of
   along_found many hold counts e =
       let is : b ≡ B.Of (actions_of b) hold = held_is b hold (sym p.hold ∙ e) in
       let counted : length (actions_of b) ≡ many = subst (Counts many) is counts in
-      put_along b pops p (sym (ap found_with is ∙ ap (λ (n : ℕ). F.Path n pops hold) counted))
+      put_along b pops p (sym (ap found_with is ∙ ap (λ (n : ℕ). Ok (F.Path n pops hold)) counted))

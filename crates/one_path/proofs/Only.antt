@@ -6,8 +6,10 @@ use mathlib.Core.List.{List}
 use Rattle.one_path.specs.Path.{Sought, Path, Missing, Refused}
 use Rattle.one_path.specs.Laid.{PutPath}
 use Rattle.one_path.specs.declared.arrival_path.Found.{Found}
+use Rattle.std.specs.Prelude.{Result}
+use Rattle.refusals.specs.declared.Refusal.{Refusal}
 
-pub only_path : (answer : Sought) {lent left left' : List ℕ} {row : ℕ} {r r' : Found} →
+pub only_path : (answer : Sought) {lent left left' : List ℕ} {row : ℕ} {r r' : Result Found Refusal} →
     PutPath answer lent left row r → PutPath answer lent left' row r' → (r ≡ r') × (left ≡ left')
 only_path (Path actions pops hold) p q =
     (p.found ∙ sym q.found, p.rows actions pops hold refl ∙ sym (q.rows actions pops hold refl))

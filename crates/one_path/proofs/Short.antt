@@ -12,14 +12,11 @@ use Rattle.times.specs.declared.time.TimePoint.{TimePoint}
 use Rattle.hint_list.specs.declared.hint.RankedHint.{RankedHint}
 use Rattle.table.specs.Obstacle.{Obstacle}
 use Rattle.path_search.specs.Answer.{Chained, Way, NoWay, Refused}
-use Rattle.path_search.specs.Handed.{first_index}
 use Rattle.path_search.specs.declared.trial.Trial.{Trial}
 use Rattle.path_search.specs.declared.trial.Trial.TheVariants as T
 use Rattle.path_search.proofs.Links.{way_links}
 use Rattle.path_roots.specs.Roots.{goal_contour, first_root}
 use Rattle.path_tests.specs.Tests.{straight}
-use Rattle.path_roots.specs.declared.roots.Contour.{Contour}
-use Rattle.path_roots.specs.declared.roots.Contour.TheVariants as C
 use Rattle.path_tests.specs.declared.trip.Trip.{Trip}
 use Rattle.path_chains.specs.Trying.{chain_from}
 use Rattle.path_actions.specs.Built as B
@@ -31,6 +28,8 @@ use Rattle.path_actions.proofs.Counted.{Counts, chain_counts}
 use Rattle.one_path.specs.Path as P
 use Rattle.one_path.specs.Path.{Sought, Path, Missing, with_pops, contoured}
 use Rattle.one_path.specs.Path.{along_hints, taken, by_hints, path_for}
+use Rattle.std.specs.Prelude.{Result, Ok, Err}
+use Rattle.refusals.specs.declared.Refusal.{Refusal}
 
 -- At most 129 actions, where there is a path.
 abbrev Short : Sought → Type 0
@@ -55,9 +54,9 @@ taken_short trip hints (Way links pops) few = along_short trip hints links pops 
 taken_short trip hints (NoWay pops) few = tt
 taken_short trip hints (Refused n pops) few = tt
 
-contoured_short : (c : Contour) (go : Duration → Sought) → ((d : Duration) → Short (go d)) → Short (contoured c go)
-contoured_short (C.Of d) go h = h d
-contoured_short (C.Refused n) go h = tt
+contoured_short : (c : Result Duration Refusal) (go : Duration → Sought) → ((d : Duration) → Short (go d)) → Short (contoured c go)
+contoured_short (Ok d) go h = h d
+contoured_short (Err n) go h = tt
 
 module _ (trip : Trip) (os : List Obstacle) (hints : List RankedHint) (few : length hints ≤ 64) (budget : ℕ)
     (arrival : TimePoint) where
@@ -66,7 +65,7 @@ module _ (trip : Trip) (os : List Obstacle) (hints : List RankedHint) (few : len
   hints_short = by (eqb (length hints) 0)
     where
       answer : Duration → Chained
-      answer goal = chain_from trip os hints budget (first_index (first_root goal hints))
+      answer goal = chain_from trip os hints budget (first_root goal hints)
 
       go : Duration → Sought
       go goal = taken trip hints (answer goal)
@@ -74,16 +73,16 @@ module _ (trip : Trip) (os : List Obstacle) (hints : List RankedHint) (few : len
       by : (none : Bool) → Short (cond none (Missing 0) (contoured (goal_contour trip arrival) go))
       by true = tt
       by false = contoured_short (goal_contour trip arrival) go (λ goal.
-          taken_short trip hints (answer goal) (chain_few trip os hints budget (first_index (first_root goal hints)) few))
+          taken_short trip hints (answer goal) (chain_few trip os hints budget (first_root goal hints) few))
 
   for_short : Short (path_for trip os hints budget arrival)
   unfolding path_for
   for_short = by (straight trip os arrival) refl
     where
-      by : (t : Trial) → straight trip os arrival ≡ t → Short (path_for trip os hints budget arrival)
-      by T.Passed e = rw e (omega arith)
-      by T.Failed e = rw e hints_short
-      by (T.Refused n) e = rw e tt
+      by : (t : Result Trial Refusal) → straight trip os arrival ≡ t → Short (path_for trip os hints budget arrival)
+      by (Ok T.Passed) e = rw e (omega arith)
+      by (Ok T.Failed) e = rw e hints_short
+      by (Err n) e = rw e tt
 
   pub path_short : (actions : List SafeAction) (pops : ℕ) (hold : Duration) →
       path_for trip os hints budget arrival ≡ Path actions pops hold → length actions ≤ 129

@@ -1,15 +1,12 @@
 -- What the call for one path alone answers: its input is examined first (RULES 4.13, 5.1 to 5.7).
 -- Assumes nothing.
 use Rattle.std.specs.Prelude.{ℕ, cond, ◌&&◌, List, [], ◌∷◌, ◌++◌, length}
-use Rattle.refusals.specs.Names.{NO_LINE}
 use Rattle.lent.specs.Outcome.{Outcome, Gives, Refuses}
 use Rattle.lent.specs.Rows.{words_in}
 use Rattle.number_words.specs.Word.{word_of}
 use Rattle.times.specs.declared.time.TimePoint.{TimePoint}
 use Rattle.domain.specs.Domain.{is_time}
 use Rattle.shapes.specs.Leg.{is_brief}
-use Rattle.domain.specs.declared.limits.Examined.{Examined}
-use Rattle.domain.specs.declared.limits.Examined.TheVariants as X
 use Rattle.shapes.specs.declared.profile.CircularProfile.{CircularProfile}
 use Rattle.shapes.specs.declared.waypoint.Leg.{Leg}
 use Rattle.table.specs.Lent.{Lent, obstacles_of}
@@ -21,12 +18,14 @@ use Rattle.hint_words.specs.Lent.{lent_hints}
 use Rattle.hint_list.specs.declared.hint.RankedHint.{RankedHint}
 use Rattle.hints.specs.Contour.{scale_of}
 use Rattle.hints.specs.declared.contour.Scale.{Scale}
-use Rattle.hints.specs.declared.contour.Scaling.{Scaling}
-use Rattle.hints.specs.declared.contour.Scaling.TheVariants as L
 use Rattle.path_tests.specs.declared.trip.Trip.{Trip}
 use Rattle.path_actions.specs.Action.{action_rows}
 use Rattle.domain.specs.Beside.{is_budget, with_numbers, with_lent}
 use Rattle.one_path.specs.Path.{Sought, Path, Missing, Refused, path_for}
+use Rattle.std.specs.Prelude.{Result, Ok, Err}
+use Rattle.refusals.specs.declared.Refusal.{Refusal}
+use Rattle.refusals.specs.declared.Refusal.TheVariants as Refusals
+use Rattle.refusals.specs.Names.{refusal_number}
 
 -- The trip at the speed along the agent's line (RULES 13.2).
 abbrev pub trip_of : CircularProfile → Leg → Scale → Trip
@@ -36,28 +35,28 @@ trip_of p agent scale = record { profile = p; leg = agent; speed = scale.speed }
 unfoldable pub lone_path : CircularProfile → Leg → TimePoint → ℕ → List RankedHint → List Obstacle → Sought
 lone_path p agent arrival budget hints os = by (scale_of agent)
   where
-    by : Scaling → Sought
-    by (L.By scale) = path_for (trip_of p agent scale) os hints budget arrival
-    by (L.Refused n) = Refused n
+    by : Result Scale Refusal → Sought
+    by (Ok scale) = path_for (trip_of p agent scale) os hints budget arrival
+    by (Err n) = Refused n
 
 -- The agent, the table, the budget, the arrival time and the lent hints are examined; then 4 for a duration under 10 ns.
 unfoldable pub asked_path : CircularProfile → Leg → TimePoint → ℕ → List ℕ → Lent → Sought
 asked_path p agent arrival budget words lent = by (lent_hints (length lent.starts) words)
   where
-    beside : Examined
+    beside : Result Unit Refusal
     beside = with_numbers (is_budget budget && is_time arrival) (agent_examined p agent lent)
 
-    examined : Examined → List RankedHint → Sought
-    examined X.Fine hints = cond (is_brief agent) (Refused NO_LINE) (lone_path p agent arrival budget hints (obstacles_of lent))
-    examined (X.Refused n) hints = Refused n
+    examined : Result Unit Refusal → List RankedHint → Sought
+    examined (Ok tt) hints = cond (is_brief agent) (Refused Refusals.NoLine) (lone_path p agent arrival budget hints (obstacles_of lent))
+    examined (Err n) hints = Refused n
 
     by : Ranked → Sought
     by (R.Of hints) = examined beside hints
-    by (R.Refused n) = examined (with_lent n beside) []
+    by (R.Refused why) = examined (with_lent (refusal_number why) beside) []
 
 -- Its words, in rows of four: whether there is a path, its pops, its hold and its count of actions; then they.
 unfoldable pub path_outcome : Sought → Outcome
 path_outcome (Path actions pops hold) =
     Gives ((1 ∷ (pops ∷ (word_of hold.0 ∷ (length actions ∷ [])))) ++ words_in (action_rows actions))
 path_outcome (Missing pops) = Gives (0 ∷ (pops ∷ (0 ∷ (0 ∷ []))))
-path_outcome (Refused n) = Refuses n
+path_outcome (Refused n) = Refuses (refusal_number n)

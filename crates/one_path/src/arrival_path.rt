@@ -9,32 +9,30 @@ ghost use Rattle.one_path.specs.Laid.{PutPath};
 use hint_list::entries;
 use lent::words;
 use path_actions::action::SafeAction;
-use path_actions::building::Hold;
 use path_actions::{action, building};
 use path_chains::trying;
 use path_roots::roots;
-use path_roots::roots::Contour;
 use path_search::trial::Trial;
 use path_search::tried;
 use path_search::tried::{Ending, Tried};
 use path_tests::tests;
 use path_tests::trip::Trip;
+use refusals::Refusal;
 use times::time::{Duration, TimePoint};
 
-// How many actions a path has, with its pops and its hold; no path, with the pops; or a refusal and its number.
-#[derive(Clone, Copy)]
+// How many actions a path has, with its pops and its hold; or no path, with the pops.
+#[derive(Clone, Copy, Debug, PartialEq, Eq)]
 pub enum Found {
     Path(usize, u64, Duration),
     Missing(u64),
-    Refused(u64),
 }
 
-// A refusal's number alone: no word of the room is kept.
-fn refuse(out: &mut [u64], number: u64) -> Found
-    ensures { PutPath (Refused number) out.old out.new 0 result }
+// A refusal alone: no word of the room is kept.
+fn refuse(out: &mut [u64], why: Refusal) -> Result<Found, Refusal>
+    ensures { PutPath (Refused why) out.old out.new 0 result }
 {
     words::wipe_from(out, 0);
-    Found::Refused(number)
+    Err(why)
 }
 
 // The path along a chain.
@@ -45,19 +43,17 @@ fn along(
     pops: u64,
     out: &mut [u64],
     row: usize,
-) -> Found
+) -> Result<Found, Refusal>
     ensures { PutPath (along_hints trip (hints_in hints.now) (links_in chain.now) pops) out.old
         out.new row result }
 {
     let n = tried::links_of(chain);
-    let hold = building::build(trip, hints, chain, out, row);
-    match hold {
-        Hold::Refused(number) => Found::Refused(number),
-        Hold::Of(d) => Found::Path(2 * n + 1, pops, d),
-    }
+    let hold = building::build(trip, hints, chain, out, row)?;
+    Ok(Found::Path(2 * n + 1, pops, hold))
 }
 
 // The path that a search came to, whose chain stands in a list of its own.
+#[tactic(auto, unfolding(crate::specs::Path::taken, path_search::specs::Handed::chained_of))]
 fn take(
     trip: Trip,
     hints: &[u64; 385],
@@ -65,16 +61,14 @@ fn take(
     tried: Tried,
     out: &mut [u64],
     row: usize,
-) -> Found
+) -> Result<Found, Refusal>
     ensures { PutPath (taken trip (hints_in hints.now) (chained_of tried (links_in chain.now))) out.old
         out.new row result }
 {
-    let ending = tried.ending;
-    match ending {
-        Ending::Found => along(trip, hints, chain, tried.pops, out, row),
-        Ending::Blocked => Found::Missing(tried.pops),
-        Ending::Unreached => Found::Missing(tried.pops),
-        Ending::Refused(n) => refuse(out, n),
+    match tried.ending {
+        Ok(Ending::Found) => along(trip, hints, chain, tried.pops, out, row),
+        Ok(Ending::Blocked | Ending::Unreached) => Ok(Found::Missing(tried.pops)),
+        Err(why) => refuse(out, why),
     }
 }
 
@@ -88,18 +82,17 @@ fn by_hints(
     places: &[f64; 800],
     out: &mut [u64],
     row: usize,
-) -> Found
+) -> Result<Found, Refusal>
     ensures { PutPath
         (by_hints trip (obstacles_in marks.now places.now) (hints_in hints.now) budget arrival)
         out.old out.new row result }
 {
     if entries::count_of(hints) == 0 {
-        return Found::Missing(0);
+        return Ok(Found::Missing(0));
     }
-    let contour = roots::goal_contour(trip, arrival);
-    match contour {
-        Contour::Refused(n) => refuse(out, n),
-        Contour::Of(goal) => {
+    match roots::goal_contour(trip, arrival) {
+        Err(why) => refuse(out, why),
+        Ok(goal) => {
             let first = roots::first_root(hints, goal);
             let mut chain = [0u64; 65];
             let tried = trying::find_chain(trip, hints, budget, first, marks, places, &mut chain);
@@ -109,6 +102,7 @@ fn by_hints(
 }
 
 // The actions of the path stand from `row` on, as far as there is room. A refusal keeps no word.
+#[tactic(auto, unfolding(crate::specs::Path::path_for))]
 pub fn compute_safe_arrival_path(
     trip: Trip,
     arrival: TimePoint,
@@ -118,20 +112,19 @@ pub fn compute_safe_arrival_path(
     places: &[f64; 800],
     out: &mut [u64],
     row: usize,
-) -> Found
+) -> Result<Found, Refusal>
     ensures { PutPath
         (path_for trip (obstacles_in marks.now places.now) (hints_in hints.now) budget arrival)
         out.old out.new row result }
 {
-    let direct = tests::can_arrive_safely(trip, arrival, marks, places);
-    match direct {
-        Trial::Refused(n) => refuse(out, n),
-        Trial::Passed => {
+    match tests::can_arrive_safely(trip, arrival, marks, places) {
+        Err(why) => refuse(out, why),
+        Ok(Trial::Passed) => {
             let leg = trip.leg;
             let goal = leg.end;
             action::put_action(out, row, SafeAction::Move(goal));
-            Found::Path(1, 0, Duration(0))
+            Ok(Found::Path(1, 0, Duration(0)))
         }
-        Trial::Failed => by_hints(trip, arrival, hints, budget, marks, places, out, row),
+        Ok(Trial::Failed) => by_hints(trip, arrival, hints, budget, marks, places, out, row),
     }
 }

@@ -20,16 +20,19 @@ use Rattle.one_path.specs.Asked.{path_outcome}
 use Rattle.one_path.specs.declared.arrival_path.Found.{Found}
 use Rattle.one_path.specs.declared.arrival_path.Found.TheVariants as F
 use Rattle.one_path.proofs.Known.{actions_in, path_is, path_counts_law, missing_is, refused_is}
+use Rattle.std.specs.Prelude.{Result, Ok, Err}
+use Rattle.refusals.specs.Names.{refusal_number}
+use Rattle.refusals.specs.declared.Refusal.{Refusal}
 
-pub given_refused : {s : Sought} {lent room : List ℕ} {found : Found} → PutPath s lent room 1 found → (n : ℕ) →
-    found ≡ F.Refused n → Handed (path_outcome s) lent room n
+pub given_refused : {s : Sought} {lent room : List ℕ} {found : Result Found Refusal} → PutPath s lent room 1 found → (n : Refusal) →
+    found ≡ Err n → Handed (path_outcome s) lent room (refusal_number n)
 unfolding path_outcome number_of room_of
 given_refused {s} p n e =
     let is : s ≡ P.Refused n = refused_is s n (sym p.found ∙ e) in
     rw is (record { number = refl; room = p.refused n is })
 
-module _ {s : Sought} {lent room left : List ℕ} {found : Found} {r : ℕ} (p : PutPath s lent room 1 found) where
-  pub given_missing : {full : List ℕ} (pops : ℕ) → found ≡ F.Missing pops →
+module _ {s : Sought} {lent room left : List ℕ} {found : Result Found Refusal} {r : ℕ} (p : PutPath s lent room 1 found) where
+  pub given_missing : {full : List ℕ} (pops : ℕ) → found ≡ Ok (F.Missing pops) →
       full ≡ with_row room 0 (0 ∷ (pops ∷ (0 ∷ (0 ∷ [])))) → Settled 1 full left r → Handed (path_outcome s) lent left r
   unfolding path_outcome words_in
   given_missing {full} pops e put settled =
@@ -38,7 +41,7 @@ module _ {s : Sought} {lent room left : List ℕ} {found : Found} {r : ℕ} (p :
       let all : full ≡ with_rows lent 0 (head ∷ []) = put ∙ rw (p.none pops is) (sym (rows_one lent 0 head)) in
       rw is (settled_rows (head ∷ []) (refl, tt) (rw (← all) settled))
 
-  pub given_path : {full : List ℕ} (many pops : ℕ) (hold : Duration) → found ≡ F.Path many pops hold →
+  pub given_path : {full : List ℕ} (many pops : ℕ) (hold : Duration) → found ≡ Ok (F.Path many pops hold) →
       full ≡ with_row room 0 (1 ∷ (pops ∷ (word_of hold.0 ∷ (many ∷ [])))) →
       Settled (1 + many) full left r → Handed (path_outcome s) lent left r
   unfolding path_outcome words_in

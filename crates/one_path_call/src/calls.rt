@@ -9,16 +9,14 @@ ghost use Rattle.one_path.specs.Path.{path_for};
 ghost use Rattle.one_path.specs.Asked.{lone_path, path_outcome, asked_path};
 
 use domain::beside;
-use domain::limits::Examined;
-use hint_list::entries::Filled;
 use hint_words::taken;
 use hints::contour;
-use hints::contour::Scaling;
 use lent::{rows, words};
 use number_words::word;
 use one_path::arrival_path;
 use one_path::arrival_path::Found;
 use path_tests::trip::Trip;
+use refusals::Refusal;
 use shapes::profile::CircularProfile;
 use shapes::waypoint::Leg;
 use table_checks::examine;
@@ -45,12 +43,12 @@ fn give_path(
         trip, arrival, hints, budget, marks, places, out, 1,
     );
     match found {
-        Found::Refused(n) => n,
-        Found::Missing(pops) => {
+        Err(why) => u64::from(why),
+        Ok(Found::Missing(pops)) => {
             rows::put_row(out, 0, 0, pops, 0, 0);
             rows::settle(out, 1)
         }
-        Found::Path(many, pops, hold) => {
+        Ok(Found::Path(many, pops, hold)) => {
             let held = word::of_signed(hold.0);
             rows::put_row(out, 0, 1, pops, held, many as u64);
             rows::settle(out, 1 + many)
@@ -59,6 +57,7 @@ fn give_path(
 }
 
 // One path among the obstacles of a table; refused 4 where the agent's line is too short.
+#[tactic(auto, unfolding(one_path::specs::Asked::path_outcome, one_path::specs::Asked::lone_path))]
 fn path_among(
     p: CircularProfile,
     agent: Leg,
@@ -75,10 +74,9 @@ fn path_among(
         (obstacles_in marks.now places.now)))
         out.old out.new result }
 {
-    let scaling = contour::scale_of(agent);
-    match scaling {
-        Scaling::Refused(n) => words::refuse(out, n),
-        Scaling::By(scale) => {
+    match contour::scale_of(agent) {
+        Err(why) => words::refuse(out, u64::from(why)),
+        Ok(scale) => {
             let trip = Trip {
                 profile: p,
                 leg: agent,
@@ -90,12 +88,12 @@ fn path_among(
 }
 
 // What is found with lent hints that are taken over or refused.
-fn with_taken(taken: Filled, found: Examined) -> Examined
+fn with_taken(taken: Result<usize, Refusal>, found: Result<(), Refusal>) -> Result<(), Refusal>
     ensures { result ≡ with_taken taken found }
 {
     match taken {
-        Filled::Of(_count) => found,
-        Filled::Refused(n) => beside::with_lent(n, found),
+        Ok(_count) => found,
+        Err(why) => beside::with_lent(u64::from(why), found),
     }
 }
 
@@ -129,10 +127,10 @@ pub fn arrival_path(
     let found = examine::examine(packed, p, agent, &marks, &places);
     let input = with_taken(taken, beside::with_numbers(others, found));
     match input {
-        Examined::Refused(n) => words::refuse(out, n),
-        Examined::Fine => {
+        Err(why) => words::refuse(out, u64::from(why)),
+        Ok(()) => {
             if agent.is_brief() {
-                return words::refuse(out, refusals::NO_LINE);
+                return words::refuse(out, u64::from(Refusal::NoLine));
             }
             path_among(p, agent, arrival, budget, &own, &marks, &places, out)
         }

@@ -20,11 +20,11 @@ use Rattle.path_actions.specs.Action.{action_words, action_rows}
 use Rattle.path_actions.specs.Built.{Built, Of, Refused, stopped, ended, in_front, and_on, built, hints_at, unheld}
 use Rattle.path_actions.specs.Laid.{PutActions, hold_of}
 use Rattle.path_actions.specs.declared.action.SafeAction.{SafeAction}
-use Rattle.path_actions.specs.declared.building.Hold.{Hold}
-use Rattle.path_actions.specs.declared.building.Hold.TheVariants as H
 use Rattle.path_actions.proofs.Rowed.{actions_fours, rows_behind}
 use Rattle.path_actions.proofs.Known.{actions_of, held_is, unheld_is}
 use Rattle.path_actions.proofs.Counted.{Counts, stopped_counts}
+use Rattle.std.specs.Prelude.{Result, Ok, Err}
+use Rattle.refusals.specs.declared.Refusal.{Refusal}
 
 before_none : (b : Built) → b ≡ in_front [] b
 before_none (Of actions hold) = refl
@@ -39,11 +39,11 @@ unfolding hold_of
 hold_before done (Of actions hold) = refl
 hold_before done (Refused n) = refl
 
-before_refused : (done : List SafeAction) (b : Built) (n : ℕ) → in_front done b ≡ Refused n → b ≡ Refused n
+before_refused : (done : List SafeAction) (b : Built) (n : Refusal) → in_front done b ≡ Refused n → b ≡ Refused n
 before_refused done (Of actions hold) n e = cc
 before_refused done (Refused m) n e = e
 
-refused_on : (b : Built) (go : Duration → Built) (n : ℕ) → b ≡ Refused n → and_on b go ≡ b
+refused_on : (b : Built) (go : Duration → Built) (n : Refusal) → b ≡ Refused n → and_on b go ≡ b
 refused_on b go n e = rw e
 
 -- What is built of a whole chain, and from link k on.
@@ -100,7 +100,7 @@ module _
         ap (λ (l : List SafeAction). with_rows lent row (action_rows l)) (ap actions_of (sym w ∙ e))
     rows_of (Refused n) w put actions d e = let no : Refused n ≡ Of actions d = sym w ∙ e in cc
 
-    put_whole : {left' : List ℕ} {r : Hold} (b : Built) → whole ≡ in_front g.done b →
+    put_whole : {left' : List ℕ} {r : Result Duration Refusal} (b : Built) → whole ≡ in_front g.done b →
         PutActions b left left' at r → PutActions whole lent left' row r
     put_whole b w p =
         record {
@@ -115,7 +115,7 @@ module _
     at_end past = rw (drop_of_length-le links {i = k} past)
 
     -- The last move ends it.
-    pub going_end : {left' : List ℕ} {r : Hold} → length links ≤ k →
+    pub going_end : {left' : List ℕ} {r : Result Duration Refusal} → length links ≤ k →
         PutActions (ended trip from hold) left left' at r → PutActions whole lent left' row r
     going_end past p = put_whole (ended trip from hold) (g.on ∙ ap (in_front g.done) (at_end past)) p
 
@@ -135,7 +135,7 @@ module _
           ap (stop_at h) (sym (add-one k))
 
       -- A refusal ends it,
-      pub going_refused : {left' : List ℕ} {r : Hold} (n : ℕ) → r ≡ H.Refused n →
+      pub going_refused : {left' : List ℕ} {r : Result Duration Refusal} (n : Refusal) → r ≡ Err n →
           PutActions (stopped trip from h hold) left left' at r → PutActions whole lent left' row r
       going_refused n f p =
           let b : Built = stopped trip from h hold in
@@ -143,7 +143,7 @@ module _
           put_whole b (g.on ∙ ap (in_front g.done) (at_link ∙ ends)) p
 
       -- and a hold goes on.
-      pub going_on : {left' : List ℕ} {r : Hold} (sum : Duration) → r ≡ H.Of sum →
+      pub going_on : {left' : List ℕ} {r : Result Duration Refusal} (sum : Duration) → r ≡ Ok sum →
           PutActions (stopped trip from h hold) left left' at r →
           Going trip hints links lent row (hint_waypoint h) sum (at + 2) (k + 1) left'
       going_on sum f p =

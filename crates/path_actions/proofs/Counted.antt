@@ -7,35 +7,36 @@ use native.Mathlib.Omega.{arith}
 use lib.ListN.{length, get_or, length-append, length-map}
 use Rattle.times.specs.Time.{with_span}
 use Rattle.times.specs.declared.time.Duration.{Duration}
-use Rattle.times.specs.declared.time.Span.{Span}
-use Rattle.times.specs.declared.time.Span.TheVariants as S
 use Rattle.shapes.specs.Leg.{place_of}
 use Rattle.shapes.specs.declared.waypoint.Waypoint.{Waypoint}
 use Rattle.hint_list.specs.declared.hint.WaitHint.{WaitHint}
 use Rattle.hint_list.specs.Words.{blank_ranked}
 use Rattle.hint_list.specs.declared.hint.RankedHint.{RankedHint}
 use Rattle.path_tests.specs.Travel.{hint_waypoint, reached_from, with_reached}
-use Rattle.path_tests.specs.declared.travel.Reached.{Reached}
-use Rattle.path_tests.specs.declared.travel.Reached.TheVariants as W
 use Rattle.path_tests.specs.declared.trip.Trip.{Trip}
 use Rattle.path_actions.specs.Built.{Built, Of, Refused, in_front, and_on}
 use Rattle.path_actions.specs.Built.{hold_after, stopped, ended, built, hints_at, unheld}
 use Rattle.path_actions.specs.declared.action.SafeAction.{SafeAction}
+use Rattle.std.specs.Prelude.{Result, Ok, Err}
+use Rattle.times.specs.Time.{strayed}
+use Rattle.times.specs.declared.time.Strayed.{Strayed}
+use Rattle.refusals.specs.declared.Refusal.{Refusal}
+use Rattle.refusals.specs.declared.Refusal.TheVariants as Refusals
 
 -- So many actions, where it is no refusal.
 abbrev pub Counts : ℕ → Built → Type 0
 Counts n (Of actions hold) = length actions ≡ n
 Counts n (Refused k) = Unit {0}
 
-reaching_counts : (n : ℕ) (r : Reached) (go : Waypoint → Built) →
+reaching_counts : (n : ℕ) (r : Result Waypoint Refusal) (go : Waypoint → Built) →
     ((w : Waypoint) → Counts n (go w)) → Counts n (with_reached Refused r go)
-reaching_counts n (W.At w) go h = h w
-reaching_counts n (W.Refused k) go h = tt
+reaching_counts n (Ok w) go h = h w
+reaching_counts n (Err k) go h = tt
 
-spanning_counts : (n : ℕ) (s : Span) (go : Duration → Built) →
-    ((d : Duration) → Counts n (go d)) → Counts n (with_span (Refused 7) s go)
-spanning_counts n (S.Of d) go h = h d
-spanning_counts n S.Strayed go h = tt
+spanning_counts : (n : ℕ) (s : Result Duration Strayed) (go : Duration → Built) →
+    ((d : Duration) → Counts n (go d)) → Counts n (with_span (Refused Refusals.Strayed) s go)
+spanning_counts n (Ok d) go h = h d
+spanning_counts n (Err _) go h = tt
 
 before_counts : (done : List SafeAction) (n : ℕ) (b : Built) → Counts n b → Counts (length done + n) (in_front done b)
 before_counts done n (Of actions hold) h = omega (arith, length-append done actions)

@@ -14,10 +14,10 @@ use Rattle.path_actions.specs.Built as P
 use Rattle.path_actions.specs.Built.{Built}
 use Rattle.path_actions.specs.Laid.{PutActions, hold_of}
 use Rattle.path_actions.specs.declared.action.SafeAction.{SafeAction}
-use Rattle.path_actions.specs.declared.building.Hold.{Hold}
-use Rattle.path_actions.specs.declared.building.Hold.TheVariants as H
 use Rattle.path_actions.proofs.Rowed.{actions_fours, rows_placed}
 use Rattle.path_actions.proofs.Known.{actions_of}
+use Rattle.std.specs.Prelude.{Result, Ok, Err}
+use Rattle.refusals.specs.declared.Refusal.{Refusal}
 
 -- One row, and two of them.
 pub one_row : (lent : List ℕ) {left : List ℕ} (row : ℕ) (a : SafeAction) →
@@ -31,7 +31,7 @@ unfolding with_rows
 two_rows lent row a b e f = f ∙ ap (λ (room : List ℕ). with_row room (row + 1) (action_words b)) e
 
 -- A refusal keeps nothing of the room, whichever row it was to begin at.
-pub put_wiped : {lent left : List ℕ} {row : ℕ} (n : ℕ) → left ≡ wiped lent 0 → PutActions (P.Refused n) lent left row (H.Refused n)
+pub put_wiped : {lent left : List ℕ} {row : ℕ} (n : Refusal) → left ≡ wiped lent 0 → PutActions (P.Refused n) lent left row (Err n)
 unfolding hold_of
 put_wiped {lent} {left} n wipes =
     let zeros : left ≡ replicate (length lent) 0 = wipes ∙ wiped_whole lent in
@@ -42,12 +42,12 @@ put_wiped {lent} {left} n wipes =
       refused = λ m e. zeros;
     }
 
-pub put_nothing : {lent left : List ℕ} {row other : ℕ} {r : Hold} (n : ℕ) →
+pub put_nothing : {lent left : List ℕ} {row other : ℕ} {r : Result Duration Refusal} (n : Refusal) →
     PutActions (P.Refused n) lent left other r → PutActions (P.Refused n) lent left row r
 put_nothing n p = record { hold = p.hold; long = p.long; rows = λ actions d e. cc; refused = p.refused }
 
 pub put_rows : {lent left : List ℕ} {row : ℕ} (actions : List SafeAction) (hold : Duration) →
-    left ≡ with_rows lent row (action_rows actions) → PutActions (P.Of actions hold) lent left row (H.Of hold)
+    left ≡ with_rows lent row (action_rows actions) → PutActions (P.Of actions hold) lent left row (Ok hold)
 unfolding hold_of
 put_rows {lent} {left} {row} actions hold put =
     record {
@@ -58,7 +58,7 @@ put_rows {lent} {left} {row} actions hold put =
     }
 
 -- A row past the room stands for its end.
-pub put_placed : {b : Built} {lent left : List ℕ} {r : Hold} (row : ℕ) →
+pub put_placed : {b : Built} {lent left : List ℕ} {r : Result Duration Refusal} (row : ℕ) →
     PutActions b lent left (min row (length lent / 4)) r → PutActions b lent left row r
 put_placed {lent = lent} row p =
     record {

@@ -4,8 +4,6 @@ use Rattle.std.specs.Prelude.{ℕ, List, [], ◌∷◌, ◌++◌, map, pos, get_
 use Rattle.refusals.specs.Names.{STRAYED}
 use Rattle.times.specs.Time.{span_between, span_sum, with_span}
 use Rattle.times.specs.declared.time.Duration.{Duration}
-use Rattle.times.specs.declared.time.Span.{Span}
-use Rattle.times.specs.declared.time.Span.TheVariants as S
 use Rattle.times.specs.declared.time.TimePoint.{TimePoint}
 use Rattle.shapes.specs.Leg.{place_of}
 use Rattle.shapes.specs.declared.waypoint.Waypoint.{Waypoint}
@@ -16,25 +14,30 @@ use Rattle.path_tests.specs.Travel.{hint_waypoint, reached_from, with_reached}
 use Rattle.path_tests.specs.declared.trip.Trip.{Trip}
 use Rattle.path_actions.specs.declared.action.SafeAction.{SafeAction}
 use Rattle.path_actions.specs.declared.action.SafeAction.TheVariants.{Move, Wait}
+use Rattle.std.specs.Prelude.{Result, Ok, Err}
+use Rattle.times.specs.Time.{strayed}
+use Rattle.times.specs.declared.time.Strayed.{Strayed}
+use Rattle.refusals.specs.declared.Refusal.TheVariants as Refusals
+use Rattle.refusals.specs.declared.Refusal.{Refusal}
 
 -- Actions and the hold with their waits, or a refusal.
 pub data Built : Type 0 where
   Of : List SafeAction → Duration → Built
-  Refused : ℕ → Built
+  Refused : Refusal → Built
 
 -- A wait is its end less the arrival; it and the running sum are spans (RULES 13.25, 13.26).
-unfoldable pub hold_after : Duration → TimePoint → TimePoint → Span
+unfoldable pub hold_after : Duration → TimePoint → TimePoint → Result Duration Strayed
 hold_after hold arrival until = by (span_between arrival until)
   where
-    by : Span → Span
-    by (S.Of wait) = span_sum hold wait
-    by S.Strayed = S.Strayed
+    by : Result Duration Strayed → Result Duration Strayed
+    by (Ok wait) = span_sum hold wait
+    by (Err _) = strayed
 
 -- A hint of the chain: a Move to its place, a Wait there for its obstacle (RULES 13.23).
 unfoldable pub stopped : Trip → Waypoint → WaitHint → Duration → Built
 stopped trip from h hold =
     with_reached Refused (reached_from trip.speed from h.place) (λ w.
-    with_span (Refused STRAYED) (hold_after hold w.time h.until) (λ sum.
+    with_span (Refused Refusals.Strayed) (hold_after hold w.time h.until) (λ sum.
     Of (Move w ∷ (Wait h.obstacle h.until ∷ [])) sum))
 
 -- At the end a Move to the goal's place (RULES 13.23).
@@ -44,11 +47,11 @@ ended trip from hold =
 
 abbrev pub in_front : List SafeAction → Built → Built
 in_front done (Of actions hold) = Of (done ++ actions) hold
-in_front done (Refused n) = Refused n
+in_front done (Refused why) = Refused why
 
 abbrev pub and_on : Built → (Duration → Built) → Built
 and_on (Of actions hold) go = in_front actions (go hold)
-and_on (Refused n) go = Refused n
+and_on (Refused why) go = Refused why
 
 -- From a waypoint by way of hints to the goal, with the hold so far (RULES 13.23 to 13.26).
 unfoldable pub built : Trip → Waypoint → Duration → List WaitHint → Built

@@ -16,6 +16,7 @@ pub enum SafeAction {
 }
 
 // Puts the row of an action at its place, where there is room for it.
+#[tactic(auto, using(number_words::proofs::ReadBack::read_back), unfolding(crate::specs::Action::action_words))]
 pub fn put_action(out: &mut [u64], row: usize, action: SafeAction)
     ensures { out.new ≡ with_row out.old row (action_words action) }
 {

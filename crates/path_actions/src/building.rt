@@ -12,38 +12,29 @@ use hint_list::hint::WaitHint;
 use lent::words;
 use path_search::tried;
 use path_tests::travel;
-use path_tests::travel::Reached;
 use path_tests::trip::Trip;
+use refusals::Refusal;
 use shapes::waypoint::Waypoint;
-use times::time::{Duration, Span, TimePoint};
-
-// The hold of a path, or a refusal and its number.
-#[derive(Clone, Copy)]
-pub enum Hold {
-    Of(Duration),
-    Refused(u64),
-}
+use times::time::{Duration, Strayed, TimePoint};
 
 // A hold with the wait from an arrival until an instant.
-fn hold_after(hold: Duration, arrival: TimePoint, until: TimePoint) -> Span
+#[tactic(auto, unfolding(crate::specs::Built::hold_after))]
+fn hold_after(hold: Duration, arrival: TimePoint, until: TimePoint) -> Result<Duration, Strayed>
     ensures { result ≡ hold_after hold arrival until }
 {
-    let waiting = until.since(arrival);
-    let Span::Of(wait) = waiting else {
-        return Span::Strayed;
-    };
-    hold.plus(wait)
+    hold.plus(until.since(arrival)?)
 }
 
-// A refusal's number alone: no word of the room is kept.
-fn refuse(out: &mut [u64], number: u64) -> Hold
-    ensures { PutActions (Refused number) out.old out.new 0 result }
+// A refusal alone: no word of the room is kept.
+fn refuse(out: &mut [u64], why: Refusal) -> Result<Duration, Refusal>
+    ensures { PutActions (Refused why) out.old out.new 0 result }
 {
     words::wipe_from(out, 0);
-    Hold::Refused(number)
+    Err(why)
 }
 
 // Moving from a waypoint to a hint's place and waiting there: two rows, and the hold with this wait.
+#[tactic(auto, using(crate::proofs::Left::put_wiped), unfolding(crate::specs::Built::stopped))]
 fn put_stop(
     trip: Trip,
     from: Waypoint,
@@ -51,39 +42,43 @@ fn put_stop(
     hold: Duration,
     out: &mut [u64],
     row: usize,
-) -> Hold
+) -> Result<Duration, Refusal>
     requires { row ≤ 4_611_686_018_427_387_904 }
     ensures { PutActions (stopped trip from hint hold) out.old out.new row result }
 {
     let place = hint.place;
     let until = hint.until;
-    let arrival = travel::arrival_at(trip.speed, from, place);
-    match arrival {
-        Reached::Refused(n) => refuse(out, n),
-        Reached::At(w) => {
-            let held = hold_after(hold, w.time, until);
-            let Span::Of(sum) = held else {
-                return refuse(out, refusals::STRAYED);
+    match travel::arrival_at(trip.speed, from, place) {
+        Err(why) => refuse(out, why),
+        Ok(w) => {
+            let Ok(sum) = hold_after(hold, w.time, until) else {
+                return refuse(out, Refusal::Strayed);
             };
             action::put_action(out, row, SafeAction::Move(w));
             action::put_action(out, row + 1, SafeAction::Wait(hint.obstacle, until));
-            Hold::Of(sum)
+            Ok(sum)
         }
     }
 }
 
 // Moving from the last waypoint to the goal: one row.
-fn put_end(trip: Trip, from: Waypoint, hold: Duration, out: &mut [u64], row: usize) -> Hold
+#[tactic(auto, using(crate::proofs::Left::put_wiped), unfolding(crate::specs::Built::ended))]
+fn put_end(
+    trip: Trip,
+    from: Waypoint,
+    hold: Duration,
+    out: &mut [u64],
+    row: usize,
+) -> Result<Duration, Refusal>
     ensures { PutActions (ended trip from hold) out.old out.new row result }
 {
     let leg = trip.leg;
     let goal = leg.end;
-    let arrival = travel::arrival_at(trip.speed, from, goal.place());
-    match arrival {
-        Reached::Refused(n) => refuse(out, n),
-        Reached::At(w) => {
+    match travel::arrival_at(trip.speed, from, goal.place()) {
+        Err(why) => refuse(out, why),
+        Ok(w) => {
             action::put_action(out, row, SafeAction::Move(w));
-            Hold::Of(hold)
+            Ok(hold)
         }
     }
 }
@@ -92,15 +87,17 @@ fn put_end(trip: Trip, from: Waypoint, hold: Duration, out: &mut [u64], row: usi
 fn place(out: &[u64], row: usize) -> usize
     ensures { result ≡ min row (length out.now / 4) }
 {
-    let end = out.len() / 4;
-    if row < end {
-        return row;
-    }
-    end
+    row.min(out.len() / 4)
 }
 
 // The actions of a whole path from `row` on: two for each hint of the chain, and the last move. A refusal keeps no word.
-pub fn build(trip: Trip, hints: &[u64; 385], chain: &[u64; 65], out: &mut [u64], row: usize) -> Hold
+pub fn build(
+    trip: Trip,
+    hints: &[u64; 385],
+    chain: &[u64; 65],
+    out: &mut [u64],
+    row: usize,
+) -> Result<Duration, Refusal>
     ensures { PutActions
         (built trip trip.leg.start (record { 0 = pos 0 })
         (hints_at (hints_in hints.now) (links_in chain.now)))
@@ -111,18 +108,12 @@ pub fn build(trip: Trip, hints: &[u64; 385], chain: &[u64; 65], out: &mut [u64],
     let mut from = leg.start;
     let mut hold = Duration(0);
     let mut at = place(out, row);
-    let mut k = 0;
-    while k < n {
+    for k in 0..n {
         let ranked = entries::hint_at(hints, tried::link_at(chain, k));
         let hint = ranked.hint;
-        let stop = put_stop(trip, from, hint, hold, out, at);
-        let Hold::Of(sum) = stop else {
-            return stop;
-        };
+        hold = put_stop(trip, from, hint, hold, out, at)?;
         from = travel::waypoint_of(hint);
-        hold = sum;
         at += 2;
-        k += 1;
     }
     put_end(trip, from, hold, out, at)
 }

@@ -1,7 +1,7 @@
 -- The tests that the search asks of a trip's hints, and the search by them (RULES 13.10, 13.13, 13.16).
 -- Assumes nothing.
 use Rattle.std.specs.Prelude.{ℕ, Bool, List, length, get_or}
-use Rattle.std.proofs.Math.Option.{Option, none, some}
+use Rattle.std.specs.Prelude.{Option, Some, None}
 use Rattle.std.specs.Float.Ieee
 use Rattle.shapes.specs.declared.waypoint.Waypoint.{Waypoint}
 use Rattle.table.specs.Obstacle.{Obstacle}
@@ -13,18 +13,20 @@ use Rattle.path_search.specs.declared.trial.Trial.{Trial}
 use Rattle.path_tests.specs.Travel.{hint_waypoint}
 use Rattle.path_tests.specs.Tests.{to_end, to_goal, from_start}
 use Rattle.path_tests.specs.declared.trip.Trip.{Trip}
+use Rattle.std.specs.Prelude.{Result}
+use Rattle.refusals.specs.declared.Refusal.{Refusal}
 
 -- The waypoint of hint i.
 unfoldable pub stop_in : List RankedHint → ℕ → Waypoint
 stop_in hints i = hint_waypoint (get_or hints i blank_ranked).hint
 
 -- A root's way leads to the goal, a child's to the waypoint of its parent (RULES 13.10).
-unfoldable pub to_parent : Trip → List Obstacle → List RankedHint → ℕ → Option ℕ → Trial
-to_parent trip os hints i none = to_goal trip os (stop_in hints i)
-to_parent trip os hints i (some j) = to_end trip os (stop_in hints i) (stop_in hints j)
+unfoldable pub to_parent : Trip → List Obstacle → List RankedHint → ℕ → Option ℕ → Result Trial Refusal
+to_parent trip os hints i None = to_goal trip os (stop_in hints i)
+to_parent trip os hints i (Some j) = to_end trip os (stop_in hints i) (stop_in hints j)
 
 -- A hint's own start (RULES 13.16).
-unfoldable pub starts_at : Trip → List Obstacle → List RankedHint → ℕ → Trial
+unfoldable pub starts_at : Trip → List Obstacle → List RankedHint → ℕ → Result Trial Refusal
 starts_at trip os hints i = from_start trip os (stop_in hints i)
 
 -- A child's reach is at most its parent's (RULES 13.13).

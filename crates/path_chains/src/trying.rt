@@ -4,16 +4,17 @@
 ghost use Rattle.std.specs.Prelude.{◌≡◌, ◌-◌, ◌<◌, length};
 ghost use Rattle.table.specs.Table.{obstacles_in};
 ghost use Rattle.hint_list.specs.Words.{hints_in};
-ghost use Rattle.path_search.specs.Handed.{parent_of, first_index, HandsTried, HandsChain};
+ghost use Rattle.path_search.specs.Handed.{HandsTried, HandsChain};
 ghost use Rattle.path_chains.specs.Trying.{stop_in, to_parent, reaches, start_tried, hint_tried};
 ghost use Rattle.path_chains.specs.Trying.{child_tried, children_tried, roots_tried, chain_from};
 
 use hint_list::entries;
-use path_search::trial::{First, Parent, Trial};
+use path_search::trial::Trial;
 use path_search::tried;
 use path_search::tried::{Ending, Tried};
 use path_tests::trip::Trip;
 use path_tests::{tests, travel};
+use refusals::Refusal;
 use shapes::waypoint::Waypoint;
 
 // The pops made so far, and how many may be made.
@@ -24,6 +25,7 @@ pub struct Pops {
 }
 
 // The waypoint of hint i.
+#[tactic(auto, unfolding(crate::specs::Trying::stop_in))]
 fn stop_at(hints: &[u64; 385], i: usize) -> Waypoint
     ensures { result ≡ stop_in (hints_in hints.now) i }
 {
@@ -33,6 +35,7 @@ fn stop_at(hints: &[u64; 385], i: usize) -> Waypoint
 }
 
 // Whether a child's reach is at most its parent's.
+#[tactic(auto, unfolding(crate::specs::Trying::reaches))]
 fn is_in_reach(hints: &[u64; 385], child: usize, i: usize) -> bool
     ensures { result ≡ reaches (hints_in hints.now) child i }
 {
@@ -41,22 +44,23 @@ fn is_in_reach(hints: &[u64; 385], child: usize, i: usize) -> bool
     lower.reach <= upper.reach
 }
 
-// Whether hint i can reach its parent.
+// Whether hint i can reach its parent, which is the goal where there is none.
+#[tactic(auto, unfolding(crate::specs::Trying::to_parent))]
 fn way_up(
     trip: Trip,
     hints: &[u64; 385],
     marks: &[u64; 417],
     places: &[f64; 800],
     i: usize,
-    parent: Parent,
-) -> Trial
+    parent: Option<usize>,
+) -> Result<Trial, Refusal>
     ensures { result ≡ to_parent trip (obstacles_in marks.now places.now) (hints_in hints.now) i
-        (parent_of parent) }
+        parent }
 {
     let from = stop_at(hints, i);
     match parent {
-        Parent::Goal => tests::to_goal(trip, from, marks, places),
-        Parent::Hint(j) => {
+        None => tests::to_goal(trip, from, marks, places),
+        Some(j) => {
             let end = stop_at(hints, j);
             tests::to_end(trip, from, end, marks, places)
         }
@@ -64,6 +68,7 @@ fn way_up(
 }
 
 // The own start of hint i.
+#[tactic(auto, unfolding(crate::specs::Trying::starts_at, path_search::specs::Links::linked_by))]
 fn try_start(
     trip: Trip,
     hints: &[u64; 385],
@@ -79,12 +84,12 @@ fn try_start(
     let stop = stop_at(hints, i);
     let trial = tests::from_start(trip, stop, marks, places);
     match trial {
-        Trial::Passed => {
+        Ok(Trial::Passed) => {
             tried::add_link(chain, i);
-            Tried::ended(Ending::Found, pops)
+            Tried::ended(Ok(Ending::Found), pops)
         }
-        Trial::Failed => Tried::ended(Ending::Unreached, pops),
-        Trial::Refused(n) => Tried::ended(Ending::Refused(n), pops),
+        Ok(Trial::Failed) => Tried::ended(Ok(Ending::Unreached), pops),
+        Err(why) => Tried::ended(Err(why), pops),
     }
 }
 
@@ -97,29 +102,29 @@ fn try_hint(
     places: &[f64; 800],
     chain: &mut [u64; 65],
     i: usize,
-    parent: Parent,
+    parent: Option<usize>,
     pops: Pops,
 ) -> Tried
     ensures { HandsTried
         (hint_tried trip (obstacles_in marks.now places.now) (hints_in hints.now) pops.budget
-        i (parent_of parent) pops.made)
+        i parent pops.made)
         chain.old chain.new result }
 {
     if pops.budget <= pops.made {
-        return Tried::ended(Ending::Refused(refusals::SPENT), pops.made);
+        return Tried::ended(Err(Refusal::Spent), pops.made);
     }
     let made = pops.made + 1;
     let trial = way_up(trip, hints, marks, places, i, parent);
     match trial {
-        Trial::Passed => {
+        Ok(Trial::Passed) => {
             let more = Pops {
                 made,
                 budget: pops.budget,
             };
             try_children(trip, hints, marks, places, chain, i, more)
         }
-        Trial::Failed => Tried::ended(Ending::Blocked, made),
-        Trial::Refused(n) => Tried::ended(Ending::Refused(n), made),
+        Ok(Trial::Failed) => Tried::ended(Ok(Ending::Blocked), made),
+        Err(why) => Tried::ended(Err(why), made),
     }
 }
 
@@ -142,10 +147,9 @@ fn try_child(
         chain.old chain.new result }
 {
     if is_in_reach(hints, child, i) {
-        let parent = Parent::Hint(i);
-        return try_hint(trip, hints, marks, places, chain, child, parent, pops);
+        return try_hint(trip, hints, marks, places, chain, child, Some(i), pops);
     }
-    Tried::ended(Ending::Unreached, pops.made)
+    Tried::ended(Ok(Ending::Unreached), pops.made)
 }
 
 // The children of hint i, the highest first, then its own start. After each child hint i is popped again.
@@ -166,9 +170,7 @@ fn try_children(
 {
     let budget = pops.budget;
     let mut made = pops.made;
-    let mut k = i;
-    while 0 < k {
-        k -= 1;
+    for k in (0..i).rev() {
         let tried = try_child(
             trip,
             hints,
@@ -179,19 +181,17 @@ fn try_children(
             i,
             Pops { made, budget },
         );
-        let ending = tried.ending;
-        match ending {
-            Ending::Found => {
+        match tried.ending {
+            Ok(Ending::Found) => {
                 tried::add_link(chain, i);
                 return tried;
             }
-            Ending::Refused(_n) => return tried,
-            Ending::Blocked => {}
-            Ending::Unreached => {}
+            Err(_) => return tried,
+            Ok(Ending::Blocked | Ending::Unreached) => {}
         }
         made = tried.pops;
         if budget <= made {
-            return Tried::ended(Ending::Refused(refusals::SPENT), made);
+            return Tried::ended(Err(Refusal::Spent), made);
         }
         made += 1;
     }
@@ -214,20 +214,16 @@ fn try_roots(
         chain.old chain.new result }
 {
     let count = entries::count_of(hints);
-    let mut root = from;
     let mut made = 0;
-    while root < count {
-        let parent = Parent::Goal;
+    for root in from..count {
         let pops = Pops { made, budget };
-        let tried = try_hint(trip, hints, marks, places, chain, root, parent, pops);
-        let ending = tried.ending;
-        let Ending::Blocked = ending else {
+        let tried = try_hint(trip, hints, marks, places, chain, root, None, pops);
+        if tried.ending != Ok(Ending::Blocked) {
             return tried;
-        };
+        }
         made = tried.pops;
-        root += 1;
     }
-    Tried::ended(Ending::Unreached, made)
+    Tried::ended(Ok(Ending::Unreached), made)
 }
 
 // The whole search from its first root: a chain, none (which is `Unreached`), or a refusal. The links of the chain are put into the
@@ -236,24 +232,24 @@ pub fn find_chain(
     trip: Trip,
     hints: &[u64; 385],
     budget: u64,
-    first: First,
+    first: Option<usize>,
     marks: &[u64; 417],
     places: &[f64; 800],
     chain: &mut [u64; 65],
 ) -> Tried
     ensures { HandsChain
         (chain_from trip (obstacles_in marks.now places.now) (hints_in hints.now) budget
-        (first_index first))
+        first)
         chain.old chain.new result }
 {
-    let First::Root(root) = first else {
-        return Tried::ended(Ending::Unreached, 0);
+    let Some(root) = first else {
+        return Tried::ended(Ok(Ending::Unreached), 0);
     };
     if root < entries::count_of(hints) {
         return try_roots(trip, hints, budget, marks, places, chain, root);
     }
     if budget == 0 {
-        return Tried::ended(Ending::Refused(refusals::SPENT), 0);
+        return Tried::ended(Err(Refusal::Spent), 0);
     }
-    Tried::ended(Ending::Unreached, 1)
+    Tried::ended(Ok(Ending::Unreached), 1)
 }

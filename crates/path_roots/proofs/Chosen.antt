@@ -3,26 +3,27 @@
 -- Assumes nothing.
 use mathlib.Core.Path.{◌≡◌, refl, sym, ap, subst, ◌∙◌}
 use mathlib.Core.Logic.{◌⊎◌, inl, inr}
-use mathlib.Core.Bool.{Bool, true, false, not, cond, true≢false}
-use mathlib.Core.List.{List, [], ◌∷◌}
+use mathlib.Core.Bool.{Bool, true, false, true≢false}
+use mathlib.Core.List.{List}
 use Prim.Native.Nat.{ℕ, zero, suc, ◌+◌, ◌≤◌, ◌<◌}
-use native.Mathlib.Nat.{not-suc-le-zero, add-zero}
-use native.Mathlib.Numerals.{add-one}
+use native.Mathlib.Nat.{add-zero}
 use native.Mathlib.Omega.{arith}
 use borrow.Author.Tests.{not-true, not-false, ltb-true, ltb-false}
 use lib.Dec.{ltb}
 use lib.IntN.{ℤ}
 use lib.ListN.{length, drop, get_or, length-drop}
 use lib.Seq.{get_or-drop}
+use Rattle.std.specs.List.{prefix_len}
+use Rattle.std.proofs.lemmas.List.Sums.{prefix_len_passes, prefix_len_stops}
 use lib.Signed.{lt_z, ◌≤ℤ◌, ◌<ℤ◌, lt_z_yes, lt_z_no, ≤ℤ_refl, <ℤ-≤ℤ_trans, clash_ℤ}
 use Rattle.floats.proofs.Tests.{passed, failed}
 use Rattle.times.specs.declared.time.Duration.{Duration}
 use Rattle.times.proofs.Integers.{at_most_trans, below_or_at_most}
 use Rattle.hint_list.specs.Words.{blank_ranked}
 use Rattle.hint_list.specs.declared.hint.RankedHint.{RankedHint}
-use Rattle.path_search.specs.declared.trial.First.TheVariants.{Missing, Root}
 use Rattle.path_roots.specs.Roots.{count_below, count_level, first_root}
-use Rattle.path_roots.proofs.Counts.{from_here, level_in, no_root, root_found}
+use Rattle.path_roots.proofs.Counts.{from_here, is_below, below_front, not_above, level_front, level_in, no_root, root_found}
+use Rattle.std.specs.Prelude.{Option, Some, None}
 
 -- The contour of hint i.
 abbrev pub contour_at : List RankedHint → ℕ → ℤ
@@ -43,82 +44,32 @@ pub record Chosen (goal : Duration) (l : List RankedHint) (i : ℕ) : Type 0 whe
 abbrev pub AllBelow : Duration → List RankedHint → Type 0
 AllBelow goal l = (j : ℕ) → j < length l → contour_at l j <ℤ goal.0
 
--- ---- How many in front pass a test: they do, and the next does not.
-
-module _ (test : RankedHint → Bool) where
-  unfoldable front : List RankedHint → ℕ
-  front [] = 0
-  front (h ∷ hs) = cond (test h) (front hs + 1) 0
-
-  front_passes : (l : List RankedHint) (j : ℕ) → j < front l → test (get_or l j blank_ranked) ≡ true
-  unfolding front
-  front_passes [] j b = absurd (not-suc-le-zero b)
-  front_passes (h ∷ hs) j b = by (test h) refl j b (front_passes hs)
-    where
-      by : (t : Bool) → test h ≡ t → (j : ℕ) → j < cond t (front hs + 1) 0 →
-          ((k : ℕ) → k < front hs → test (get_or hs k blank_ranked) ≡ true) → test (get_or (h ∷ hs) j blank_ranked) ≡ true
-      by true e zero b rest = e
-      by true e (suc k) b rest = rest k (omega arith)
-      by false e j b rest = absurd (not-suc-le-zero b)
-
-  front_fails : (l : List RankedHint) → front l < length l → test (get_or l (front l) blank_ranked) ≡ false
-  unfolding front
-  front_fails [] b = absurd (not-suc-le-zero b)
-  front_fails (h ∷ hs) b = by (test h) refl b (front_fails hs)
-    where
-      by : (t : Bool) → test h ≡ t → cond t (front hs + 1) 0 < length (h ∷ hs) →
-          (front hs < length hs → test (get_or hs (front hs) blank_ranked) ≡ false) →
-          test (get_or (h ∷ hs) (cond t (front hs + 1) 0) blank_ranked) ≡ false
-      by true e b rest = rw (add-one (front hs)) (rest (omega arith))
-      by false e b rest = e
-
--- The hints in front of the first that is not below c,
-abbrev is_below : Duration → RankedHint → Bool
-is_below c h = lt_z h.contour.0 c.0
-
-below_front : (c : Duration) (l : List RankedHint) → count_below c l ≡ front (is_below c) l
-unfolding count_below front
-below_front c [] = refl
-below_front c (h ∷ hs) = rw (below_front c hs)
+-- ---- The hints that are counted pass, and the next does not.
 
 module _ (c : Duration) (l : List RankedHint) where
   below_passes : (j : ℕ) → j < count_below c l → contour_at l j <ℤ c.0
-  below_passes j b = lt_z_yes (passed (front_passes (is_below c) l j (rw (below_front c l) at b)))
+  below_passes j b = lt_z_yes (passed (prefix_len_passes (is_below c) l j blank_ranked (rw (below_front c l) at b)))
 
   below_fails : count_below c l < length l → c.0 ≤ℤ contour_at l (count_below c l)
   below_fails b =
-      rw (below_front c l) (lt_z_no (failed (front_fails (is_below c) l (rw (below_front c l) at b))))
-
--- and in front of the first that is above it.
-abbrev not_above : Duration → RankedHint → Bool
-not_above c h = not (lt_z c.0 h.contour.0)
-
-level_front : (c : Duration) (l : List RankedHint) → count_level c l ≡ front (not_above c) l
-unfolding count_level front
-level_front c [] = refl
-level_front c (h ∷ hs) = by (lt_z c.0 h.contour.0) (level_front c hs)
-  where
-    by : (t : Bool) → count_level c hs ≡ front (not_above c) hs →
-        cond t 0 (count_level c hs + 1) ≡ cond (not t) (front (not_above c) hs + 1) 0
-    by true e = refl
-    by false e = ap (λ n. n + 1) e
+      rw (below_front c l) (lt_z_no (failed (prefix_len_stops (is_below c) l blank_ranked (rw (below_front c l) at b))))
 
 module _ (c : Duration) (l : List RankedHint) where
   level_passes : (j : ℕ) → j < count_level c l → contour_at l j ≤ℤ c.0
   level_passes j b =
-      lt_z_no (failed (not-true (lt_z c.0 (contour_at l j)) (front_passes (not_above c) l j (rw (level_front c l) at b))))
+      lt_z_no (failed (not-true (lt_z c.0 (contour_at l j)) (prefix_len_passes (not_above c) l j blank_ranked (rw (level_front c l) at b))))
 
   level_fails : count_level c l < length l → c.0 <ℤ contour_at l (count_level c l)
   level_fails b =
-      let above = lt_z c.0 (contour_at l (front (not_above c) l)) in
-      rw (level_front c l) (lt_z_yes (passed (not-false above (front_fails (not_above c) l (rw (level_front c l) at b)))))
+      let above = lt_z c.0 (contour_at l (prefix_len (not_above c) l)) in
+      rw (level_front c l) (lt_z_yes (passed (not-false above (prefix_len_stops (not_above c) l blank_ranked (rw (level_front c l) at b)))))
 
 -- ---- The root.
 
-not_missing : {i : ℕ} → Missing ≡ Root i → ⊥
+not_missing : {i : ℕ} → None ≡ Some i → ⊥
 not_missing e = true≢false cc
 
-same_root : {i j : ℕ} → Root i ≡ Root j → i ≡ j
+same_root : {i j : ℕ} → Some i ≡ Some j → i ≡ j
 same_root e = cc
 
 module _ (goal : Duration) (l : List RankedHint) where
@@ -142,10 +93,10 @@ module _ (goal : Duration) (l : List RankedHint) where
       by true e = inl (ltb-true _ _ e)
       by false e = inr (ltb-false _ _ e)
 
-  none_found : length l ≤ at → Missing ≡ first_root goal l
+  none_found : length l ≤ at → None ≡ first_root goal l
   none_found = no_root goal l at refl
 
-  found : at < length l → Root root ≡ first_root goal l
+  found : at < length l → Some root ≡ first_root goal l
   found some = root_found goal l at refl (get_or l at blank_ranked) (from_here l at some)
 
   behind_at : (k : ℕ) → contour_at behind k ≡ contour_at l (at + 1 + k)
@@ -190,7 +141,7 @@ module _ (goal : Duration) (l : List RankedHint) where
           ]
 
 -- The search begins with the hint that is chosen,
-pub chosen : (goal : Duration) (l : List RankedHint) (i : ℕ) → Rises l → first_root goal l ≡ Root i → Chosen goal l i
+pub chosen : (goal : Duration) (l : List RankedHint) (i : ℕ) → Rises l → first_root goal l ≡ Some i → Chosen goal l i
 chosen goal l i rises e =
     elim (some_or_none goal l) [
       | inl some ↦ subst (Chosen goal l) (same_root (found goal l some ∙ e)) (chosen_root goal l rises some)
@@ -207,7 +158,7 @@ chosen_once goal l i j p q = by (ltb i j) (ltb j i) refl refl
     by false false e f = omega (arith, ltb-false i j e, ltb-false j i f)
 
 -- and with no other;
-pub chosen_only : (goal : Duration) (l : List RankedHint) (i : ℕ) → Rises l → Chosen goal l i → first_root goal l ≡ Root i
+pub chosen_only : (goal : Duration) (l : List RankedHint) (i : ℕ) → Rises l → Chosen goal l i → first_root goal l ≡ Some i
 chosen_only goal l i rises p =
     elim (some_or_none goal l) [
       | inl some ↦ sym (found goal l some) ∙ rw (chosen_once goal l (root goal l) i (chosen_root goal l rises some) p)
@@ -215,14 +166,14 @@ chosen_only goal l i rises p =
     ]
 
 -- and with none exactly where every contour is below the goal's.
-pub all_below : (goal : Duration) (l : List RankedHint) → first_root goal l ≡ Missing → AllBelow goal l
+pub all_below : (goal : Duration) (l : List RankedHint) → first_root goal l ≡ None → AllBelow goal l
 all_below goal l e j h =
     elim (some_or_none goal l) [
       | inl some ↦ absurd (not_missing (sym (found goal l some ∙ e)))
       | inr none ↦ below_passes goal l j (omega arith)
     ]
 
-pub all_below_only : (goal : Duration) (l : List RankedHint) → AllBelow goal l → first_root goal l ≡ Missing
+pub all_below_only : (goal : Duration) (l : List RankedHint) → AllBelow goal l → first_root goal l ≡ None
 all_below_only goal l all =
     elim (some_or_none goal l) [
       | inl some ↦ clash_ℤ (all (count_below goal l) some) (below_fails goal l some)

@@ -5,64 +5,41 @@ ghost use Rattle.path_roots.specs.Roots.{goal_contour, lateness, count_below, co
 
 use courses::norm;
 use hint_list::entries;
-use path_search::trial::First;
 use path_tests::trip::Trip;
-use root::nearest::Root;
-use times::time::{Duration, Span, TimePoint};
-
-// A contour, or a refusal and its number.
-#[derive(Clone, Copy)]
-pub enum Contour {
-    Of(Duration),
-    Refused(u64),
-}
+use refusals::Refusal;
+use times::time::{Duration, Strayed, TimePoint};
 
 // How late the agent is that reaches the goal, so far away, a span after its start.
-fn lateness_of(speed: f64, wait: Duration, reach: f64) -> Span
+#[tactic(auto, unfolding(crate::specs::Roots::lateness))]
+fn lateness_of(speed: f64, wait: Duration, reach: f64) -> Result<Duration, Strayed>
     ensures { result ≡ lateness speed wait reach }
 {
     if speed > 1e-8 {
         return Duration::from_secs_f64(wait.as_secs_f64() - reach / speed);
     }
-    Span::Of(wait)
+    Ok(wait)
 }
 
 // The contour of the goal for an arrival time.
-pub fn goal_contour(trip: Trip, arrival: TimePoint) -> Contour
+#[tactic(auto, unfolding(crate::specs::Roots::goal_contour))]
+pub fn goal_contour(trip: Trip, arrival: TimePoint) -> Result<Duration, Refusal>
     ensures { result ≡ goal_contour trip arrival }
 {
     let leg = trip.leg;
     let start = leg.start;
     let goal = leg.end;
-    let long = norm::norm(goal.place().minus(start.place()));
-    let Root::Of(reach) = long else {
-        return Contour::Refused(refusals::NUMBER);
-    };
-    let waiting = arrival.since(start.time);
-    let Span::Of(wait) = waiting else {
-        return Contour::Refused(refusals::STRAYED);
-    };
-    let late = lateness_of(trip.speed, wait, reach);
-    let Span::Of(contour) = late else {
-        return Contour::Refused(refusals::STRAYED);
-    };
-    Contour::Of(contour)
+    let reach = norm::norm(goal.place().minus(start.place()))?;
+    let wait = arrival.since(start.time)?;
+    Ok(lateness_of(trip.speed, wait, reach)?)
 }
 
 // How many hints stand in front of the first whose contour is not below this one.
 fn count_below(hints: &[u64; 385], contour: Duration) -> usize
     ensures { result ≡ count_below contour (hints_in hints.now) }
 {
-    let n = entries::count_of(hints);
-    let mut i = 0;
-    while i < n {
-        let h = entries::hint_at(hints, i);
-        if !h.contour.is_below(contour) {
-            return i;
-        }
-        i += 1;
-    }
-    n
+    (0..entries::count_of(hints))
+        .take_while(|i| entries::hint_at(hints, *i).contour.is_below(contour))
+        .count()
 }
 
 // How many of the hints from `from` on have a contour that is not above this one, before the first that has.
@@ -70,27 +47,20 @@ fn count_level(hints: &[u64; 385], contour: Duration, from: usize) -> usize
     requires { from ≤ length (hints_in hints.now) }
     ensures { result ≡ count_level contour (drop from (hints_in hints.now)) }
 {
-    let n = entries::count_of(hints);
-    let mut i = from;
-    while i < n {
-        let h = entries::hint_at(hints, i);
-        if contour.is_below(h.contour) {
-            return i - from;
-        }
-        i += 1;
-    }
-    n - from
+    (from..entries::count_of(hints))
+        .take_while(|i| !contour.is_below(entries::hint_at(hints, *i).contour))
+        .count()
 }
 
 // The last hint of the first contour that is not below the goal's.
-pub fn first_root(hints: &[u64; 385], goal: Duration) -> First
+pub fn first_root(hints: &[u64; 385], goal: Duration) -> Option<usize>
     ensures { result ≡ first_root goal (hints_in hints.now) }
 {
     let n = entries::count_of(hints);
     let at = count_below(hints, goal);
     if n <= at {
-        return First::Missing;
+        return None;
     }
     let h = entries::hint_at(hints, at);
-    First::Root(at + count_level(hints, h.contour, at + 1))
+    Some(at + count_level(hints, h.contour, at + 1))
 }

@@ -4,7 +4,7 @@
 use mathlib.Core.Path.{◌≡◌, refl, sym, ap, ◌∙◌}
 use mathlib.Core.Bool.{Bool, true, false}
 use mathlib.Core.List.{List, [], ◌∷◌, ◌++◌, append_assoc, append-nil}
-use mathlib.Core.Option.{Option, none, some}
+use Rattle.std.specs.Prelude.{Option, Some, None}
 use Prim.Native.Nat.{ℕ, zero, suc, ◌+◌, ◌-◌, ◌≤◌, ◌<◌}
 use native.Mathlib.Omega.{arith}
 use borrow.Author.Tests.{ltb-true, lt-ltb, le-ltb}
@@ -18,6 +18,8 @@ use Rattle.path_search.specs.Recursive as R
 use Rattle.path_search.specs.Recursive.{Tried, Found, Blocked, Unreached, Stopped}
 use Rattle.path_search.specs.Recursive.{popped, arrived_by, started_by, offer, after_child, at_root}
 use Rattle.path_search.proofs.Turns as Turns
+use Rattle.std.specs.Prelude.{Result, Ok, Err}
+use Rattle.refusals.specs.declared.Refusal.{Refusal}
 
 -- A tested element whose next child is the one below k.
 abbrev at : ℕ → ℕ → Element
@@ -30,14 +32,14 @@ outcome (Blocked p) b s = Running b p
 outcome (Unreached p) b s = Running s p
 outcome (Stopped n p) b s = Done (Refused n p)
 
-module _ (to_parent : ℕ → Option ℕ → Trial) (from_start : ℕ → Trial) (reaches : ℕ → ℕ → Bool) (count budget : ℕ) where
+module _ (to_parent : ℕ → Option ℕ → Result Trial Refusal) (from_start : ℕ → Result Trial Refusal) (reaches : ℕ → ℕ → Bool) (count budget : ℕ) where
   abbrev climb : ℕ → List Element → List Element
   climb = S.root_above to_parent from_start reaches count budget
 
   abbrev into : Option ℕ → Element → List Element → ℕ → State
   into = S.into to_parent from_start reaches count budget
 
-  abbrev arrived : Trial → Element → List Element → ℕ → State
+  abbrev arrived : Result Trial Refusal → Element → List Element → ℕ → State
   arrived = S.arrived to_parent from_start reaches count budget
 
   abbrev counted : Bool → Element → List Element → ℕ → State
@@ -89,11 +91,11 @@ module _ (to_parent : ℕ → Option ℕ → Trial) (from_start : ℕ → Trial)
   unfolding S.step R.try_hint
   hint_back k s p a there children h = step_back (new k ∷ s) p a (by (leb budget p) h)
     where
-      asked : (t : Trial) → Ends (outcome (arrived_by t (try_children k k) (p + 1)) (climb k s) s) a →
+      asked : (t : Result Trial Refusal) → Ends (outcome (arrived_by t (try_children k k) (p + 1)) (climb k s) s) a →
           Ends (arrived t (new k) s (p + 1)) a
-      asked T.Passed h = children (p + 1) h
-      asked T.Failed h = h
-      asked (T.Refused n) h = h
+      asked (Ok T.Passed) h = children (p + 1) h
+      asked (Ok T.Failed) h = h
+      asked (Err n) h = h
 
       by : (c : Bool) → Ends (outcome (popped c (arrived_by (to_parent k (last s)) (try_children k k)) p) (climb k s) s) a →
           Ends (counted c (new k) s p) a
@@ -112,17 +114,17 @@ module _ (to_parent : ℕ → Option ℕ → Trial) (from_start : ℕ → Trial)
   -- A child by its reach (RULES 13.13).
   offer_back : (i k : ℕ) (b s : List Element) (p : ℕ) (a : Chained) →
       ((q : ℕ) → Ends (outcome (again i k q) b s) a → Ends (Running (at i k ∷ s) q) a) →
-      (Ends (outcome (try_hint k (some i) p) (at i k ∷ s) (at i k ∷ s)) a → Ends (Running (new k ∷ at i k ∷ s) p) a) →
-      (r : Bool) → Ends (outcome (after_child (offer r (try_hint k (some i)) p) i (again i k)) b s) a →
+      (Ends (outcome (try_hint k (Some i) p) (at i k ∷ s) (at i k ∷ s)) a → Ends (Running (new k ∷ at i k ∷ s) p) a) →
+      (r : Bool) → Ends (outcome (after_child (offer r (try_hint k (Some i)) p) i (again i k)) b s) a →
       Ends (Running (offered r k (at i k ∷ s)) p) a
-  offer_back i k b s p a next hint true h = hint (child_back i k b s a next (try_hint k (some i) p) h)
+  offer_back i k b s p a next hint true h = hint (child_back i k b s a next (try_hint k (Some i) p) h)
   offer_back i k b s p a next hint false h = next p h
 
-  start_back : (i : ℕ) (b s : List Element) (p : ℕ) (a : Chained) (t : Trial) →
+  start_back : (i : ℕ) (b s : List Element) (p : ℕ) (a : Chained) (t : Result Trial Refusal) →
       Ends (outcome (started_by t i p) b s) a → Ends (started t (at i 0) s p) a
-  start_back i b s p a T.Passed h = h
-  start_back i b s p a T.Failed h = h
-  start_back i b s p a (T.Refused n) h = h
+  start_back i b s p a (Ok T.Passed) h = h
+  start_back i b s p a (Ok T.Failed) h = h
+  start_back i b s p a (Err n) h = h
 
   -- The children of i below k, then its own start (RULES 13.12 to 13.16).
   children_back : (i k : ℕ) (b s : List Element) (p : ℕ) (a : Chained) → i < count → k ≤ i →
@@ -153,7 +155,7 @@ module _ (to_parent : ℕ → Option ℕ → Trial) (from_start : ℕ → Trial)
   roots_back (suc n) r p a e h =
       rw (lt-ltb r count (omega arith))
       (hint_back r [] p a (omega arith) (λ q. children_back r r (climb r []) [] q a (omega arith) (omega arith))
-      (root_back r (try_roots n (r + 1)) a (λ q. roots_back n (r + 1) q a (omega arith)) (try_hint r none p) h))
+      (root_back r (try_roots n (r + 1)) a (λ q. roots_back n (r + 1) q a (omega arith)) (try_hint r None p) h))
 
   past_back : (r : ℕ) → ltb r count ≡ false → (b : Bool) → Ends (counted b (new r) [] 0) (R.past_last_root b)
   unfolding S.step
@@ -169,8 +171,8 @@ module _ (to_parent : ℕ → Option ℕ → Trial) (from_start : ℕ → Trial)
 
   ends : (r : Option ℕ) → Ends (Running (first r) 0) (recursive_search r)
   unfolding S.step R.recursive_search
-  ends none = step_back [] 0 (NoWay 0) refl
-  ends (some r) = from_back r (ltb r count) refl
+  ends None = step_back [] 0 (NoWay 0) refl
+  ends (Some r) = from_back r (ltb r count) refl
 
   -- Any number of turns above the budget gives the recursion's answer,
   pub turns_are_recursion : (r : Option ℕ) (n : ℕ) → budget < n →

@@ -1,7 +1,7 @@
 -- The pops only grow while hints are tried (RULES 13.20).
 -- Assumes nothing.
 use mathlib.Core.Bool.{Bool, true, false}
-use mathlib.Core.Option.{Option, none, some}
+use Rattle.std.specs.Prelude.{Option, Some, None}
 use Prim.Native.Nat.{ℕ, zero, suc, ◌+◌, ◌≤◌}
 use native.Mathlib.Omega.{arith}
 use lib.Dec.{leb}
@@ -12,6 +12,8 @@ use Rattle.path_search.specs.Recursive as R
 use Rattle.path_search.specs.Recursive.{Tried, Found, Blocked, Unreached, Stopped}
 use Rattle.path_search.specs.Recursive.{popped, arrived_by, started_by, offer, after_child, at_root}
 use Rattle.path_search.proofs.Pops.{tried_pops}
+use Rattle.std.specs.Prelude.{Result, Ok, Err}
+use Rattle.refusals.specs.declared.Refusal.{Refusal}
 
 -- No fewer pops after than before.
 abbrev pub Grows : (ℕ → Tried) → Type 0
@@ -21,15 +23,15 @@ pub popped_grows : (spent : Bool) (f : ℕ → Tried) → Grows f → Grows (pop
 popped_grows true f grows p = omega arith
 popped_grows false f grows p = omega (arith, grows (p + 1))
 
-pub arrived_grows : (t : Trial) (f : ℕ → Tried) → Grows f → Grows (arrived_by t f)
-arrived_grows T.Passed f grows p = grows p
-arrived_grows T.Failed f grows p = omega arith
-arrived_grows (T.Refused n) f grows p = omega arith
+pub arrived_grows : (t : Result Trial Refusal) (f : ℕ → Tried) → Grows f → Grows (arrived_by t f)
+arrived_grows (Ok T.Passed) f grows p = grows p
+arrived_grows (Ok T.Failed) f grows p = omega arith
+arrived_grows (Err n) f grows p = omega arith
 
-started_grows : (t : Trial) (i : ℕ) → Grows (started_by t i)
-started_grows T.Passed i p = omega arith
-started_grows T.Failed i p = omega arith
-started_grows (T.Refused n) i p = omega arith
+started_grows : (t : Result Trial Refusal) (i : ℕ) → Grows (started_by t i)
+started_grows (Ok T.Passed) i p = omega arith
+started_grows (Ok T.Failed) i p = omega arith
+started_grows (Err n) i p = omega arith
 
 offer_grows : (b : Bool) (f : ℕ → Tried) → Grows f → Grows (offer b f)
 offer_grows true f grows p = grows p
@@ -47,7 +49,7 @@ rooted_grows p (Blocked q) f le grows = omega (arith, grows q)
 rooted_grows p (Unreached q) f le grows = le
 rooted_grows p (Stopped n q) f le grows = le
 
-module _ (to_parent : ℕ → Option ℕ → Trial) (from_start : ℕ → Trial) (reaches : ℕ → ℕ → Bool) (budget : ℕ) where
+module _ (to_parent : ℕ → Option ℕ → Result Trial Refusal) (from_start : ℕ → Result Trial Refusal) (reaches : ℕ → ℕ → Bool) (budget : ℕ) where
   abbrev children : ℕ → ℕ → ℕ → Tried
   children = R.try_children to_parent from_start reaches budget
 
@@ -59,21 +61,21 @@ module _ (to_parent : ℕ → Option ℕ → Trial) (from_start : ℕ → Trial)
 
   hint_grows : (i : ℕ) (parent : Option ℕ) (f : ℕ → Tried) → Grows f → Grows (hint_by f i parent)
   hint_grows i parent f grows p =
-      let t : Trial = to_parent i parent in popped_grows (leb budget p) (arrived_by t f) (arrived_grows t f grows) p
+      let t : Result Trial Refusal = to_parent i parent in popped_grows (leb budget p) (arrived_by t f) (arrived_grows t f grows) p
 
   pub children_grows : (i k : ℕ) → Grows (children i k)
   unfolding R.try_children
   children_grows i zero p = started_grows (from_start i) i p
   children_grows i (suc k) p =
-      let hint : ℕ → Tried = hint_by (children k k) k (some i) in
+      let hint : ℕ → Tried = hint_by (children k k) k (Some i) in
       after_grows p (offer (reaches k i) hint p) i (λ q. popped (leb budget q) (children i k) q)
-      (offer_grows (reaches k i) hint (hint_grows k (some i) (children k k) (children_grows k k)) p)
+      (offer_grows (reaches k i) hint (hint_grows k (Some i) (children k k) (children_grows k k)) p)
       (λ q. popped_grows (leb budget q) (children i k) (children_grows i k) q)
 
   pub roots_grow : (n r p : ℕ) → p ≤ pops_of (roots n r p)
   unfolding R.try_roots R.try_hint
   roots_grow zero r p = omega arith
   roots_grow (suc n) r p =
-      rooted_grows p (hint_by (children r r) r none p) (roots n (r + 1))
-      (hint_grows r none (children r r) (children_grows r r) p)
+      rooted_grows p (hint_by (children r r) r None p) (roots n (r + 1))
+      (hint_grows r None (children r r) (children_grows r r) p)
       (roots_grow n (r + 1))

@@ -1,6 +1,5 @@
 pub mod Links
 pub mod Steps
-pub mod Else
 mod Turns
 pub mod Agree
 pub mod Pops

@@ -4,7 +4,7 @@
 use mathlib.Core.Path.{◌≡◌, refl, sym, ap, ◌∙◌}
 use mathlib.Core.Bool.{Bool, true, false}
 use mathlib.Core.List.{List, [], ◌∷◌, ◌++◌, append_assoc, append-nil}
-use mathlib.Core.Option.{Option, none, some}
+use Rattle.std.specs.Prelude.{Option, Some, None}
 use Prim.Native.Nat.{ℕ, zero, suc, ◌+◌, ◌-◌, ◌≤◌, ◌<◌, min}
 use native.Mathlib.Omega.{arith}
 use borrow.Author.Tests.{lt-ltb, ltb-true, ltb-false}
@@ -22,6 +22,8 @@ use Rattle.path_search.specs.Recursive.{Tried, Found, Blocked, Unreached, Stoppe
 use Rattle.path_search.specs.Recursive.{popped, arrived_by, started_by, offer, after_child, at_root}
 use Rattle.path_search.specs.Links.{links_in, linked_to, linked_by}
 use Rattle.path_search.specs.Handed.{HandsChain, chained_of}
+use Rattle.std.specs.Prelude.{Result, Ok, Err}
+use Rattle.refusals.specs.declared.Refusal.{Refusal}
 
 -- ---- The words.
 
@@ -141,15 +143,15 @@ popped_links : (m : ℕ) (spent : Bool) (f : ℕ → Tried) → AtMost m f → A
 popped_links m true f h p = omega arith
 popped_links m false f h p = h (p + 1)
 
-arrived_links : (m : ℕ) (t : Trial) (f : ℕ → Tried) → AtMost m f → AtMost m (arrived_by t f)
-arrived_links m T.Passed f h p = h p
-arrived_links m T.Failed f h p = omega arith
-arrived_links m (T.Refused n) f h p = omega arith
+arrived_links : (m : ℕ) (t : Result Trial Refusal) (f : ℕ → Tried) → AtMost m f → AtMost m (arrived_by t f)
+arrived_links m (Ok T.Passed) f h p = h p
+arrived_links m (Ok T.Failed) f h p = omega arith
+arrived_links m (Err n) f h p = omega arith
 
-started_links : (t : Trial) (i : ℕ) → AtMost 1 (started_by t i)
-started_links T.Passed i p = omega arith
-started_links T.Failed i p = omega arith
-started_links (T.Refused n) i p = omega arith
+started_links : (t : Result Trial Refusal) (i : ℕ) → AtMost 1 (started_by t i)
+started_links (Ok T.Passed) i p = omega arith
+started_links (Ok T.Failed) i p = omega arith
+started_links (Err n) i p = omega arith
 
 offer_links : (m : ℕ) (b : Bool) (f : ℕ → Tried) → AtMost m f → AtMost m (offer b f)
 offer_links m true f h p = h p
@@ -171,7 +173,7 @@ past_links : (m : ℕ) (spent : Bool) → way_links (R.past_last_root spent) ≤
 past_links m true = omega arith
 past_links m false = omega arith
 
-module _ (to_parent : ℕ → Option ℕ → Trial) (from_start : ℕ → Trial) (reaches : ℕ → ℕ → Bool) (budget : ℕ) where
+module _ (to_parent : ℕ → Option ℕ → Result Trial Refusal) (from_start : ℕ → Result Trial Refusal) (reaches : ℕ → ℕ → Bool) (budget : ℕ) where
   abbrev children : ℕ → ℕ → ℕ → Tried
   children = R.try_children to_parent from_start reaches budget
 
@@ -183,19 +185,19 @@ module _ (to_parent : ℕ → Option ℕ → Trial) (from_start : ℕ → Trial)
 
   hint_links : (m i : ℕ) (parent : Option ℕ) (f : ℕ → Tried) → AtMost m f → AtMost m (hint_by f i parent)
   hint_links m i parent f h p =
-      let t : Trial = to_parent i parent in popped_links m (leb budget p) (arrived_by t f) (arrived_links m t f h) p
+      let t : Result Trial Refusal = to_parent i parent in popped_links m (leb budget p) (arrived_by t f) (arrived_links m t f h) p
 
   -- With children below k there are at most k links before i (RULES 13.14).
   children_links : (i k : ℕ) → AtMost (k + 1) (children i k)
   unfolding R.try_children
   children_links i zero p = omega (arith, started_links (from_start i) i p)
   children_links i (suc k) p =
-      let hint : ℕ → Tried = hint_by (children k k) k (some i) in
+      let hint : ℕ → Tried = hint_by (children k k) k (Some i) in
       let again : ℕ → Tried = λ q. popped (leb budget q) (children i k) q in
       let few : AtMost ((k + 1) + 1) (children i k) = λ q. omega (arith, children_links i k q) in
       let h : links (after_child (offer (reaches k i) hint p) i again) ≤ (k + 1) + 1 =
       after_links (k + 1) (offer (reaches k i) hint p) i again
-      (offer_links (k + 1) (reaches k i) hint (hint_links (k + 1) k (some i) (children k k) (children_links k k)) p)
+      (offer_links (k + 1) (reaches k i) hint (hint_links (k + 1) k (Some i) (children k k) (children_links k k)) p)
       (λ q. popped_links ((k + 1) + 1) (leb budget q) (children i k) few q)
       in omega arith
 
@@ -203,14 +205,14 @@ module _ (to_parent : ℕ → Option ℕ → Trial) (from_start : ℕ → Trial)
   unfolding R.try_roots R.try_hint
   roots_links zero r p = omega arith
   roots_links (suc n) r p =
-      rooted_links (r + suc n) (hint_by (children r r) r none p) (roots n (r + 1))
-      (omega (arith, hint_links (r + 1) r none (children r r) (children_links r r) p))
+      rooted_links (r + suc n) (hint_by (children r r) r None p) (roots n (r + 1))
+      (omega (arith, hint_links (r + 1) r None (children r r) (children_links r r) p))
       (λ q. omega (arith, roots_links n (r + 1) q))
 
   pub way_links_law : (count : ℕ) (r : Option ℕ) → way_links (R.recursive_search to_parent from_start reaches count budget r) ≤ count
   unfolding R.recursive_search
-  way_links_law count none = omega arith
-  way_links_law count (some r) = by (ltb r count) refl
+  way_links_law count None = omega arith
+  way_links_law count (Some r) = by (ltb r count) refl
     where
       by : (there : Bool) → ltb r count ≡ there →
           way_links (R.from_root to_parent from_start reaches count budget there r) ≤ count

@@ -2,7 +2,7 @@
 -- Assumes nothing.
 use mathlib.Core.Path.{◌≡◌, refl}
 use mathlib.Core.Bool.{Bool, true, false}
-use mathlib.Core.Option.{Option, none, some}
+use Rattle.std.specs.Prelude.{Option, Some, None}
 use Prim.Native.Nat.{ℕ, zero, suc, ◌+◌, ◌-◌, ◌≤◌}
 use native.Mathlib.Omega.{arith}
 use borrow.Author.Tests.{leb-false}
@@ -15,6 +15,8 @@ use Rattle.path_search.specs.Recursive as R
 use Rattle.path_search.specs.Recursive.{Tried, Found, Blocked, Unreached, Stopped}
 use Rattle.path_search.specs.Recursive.{popped, arrived_by, started_by, offer, after_child, at_root}
 use Rattle.path_search.proofs.Agree.{stack_is_recursion}
+use Rattle.std.specs.Prelude.{Result, Ok, Err}
+use Rattle.refusals.specs.declared.Refusal.{Refusal}
 
 -- The pops made once a hint was tried.
 abbrev pub tried_pops : Tried → ℕ
@@ -38,15 +40,15 @@ module _ (budget : ℕ) where
       by true e = le
       by false e = keeps (p + 1) (omega (arith, leb-false budget p e))
 
-  arrived_within : (t : Trial) (f : ℕ → Tried) → Keeps f → Keeps (arrived_by t f)
-  arrived_within T.Passed f keeps p le = keeps p le
-  arrived_within T.Failed f keeps p le = le
-  arrived_within (T.Refused n) f keeps p le = le
+  arrived_within : (t : Result Trial Refusal) (f : ℕ → Tried) → Keeps f → Keeps (arrived_by t f)
+  arrived_within (Ok T.Passed) f keeps p le = keeps p le
+  arrived_within (Ok T.Failed) f keeps p le = le
+  arrived_within (Err n) f keeps p le = le
 
-  started_within : (t : Trial) (i : ℕ) → Keeps (started_by t i)
-  started_within T.Passed i p le = le
-  started_within T.Failed i p le = le
-  started_within (T.Refused n) i p le = le
+  started_within : (t : Result Trial Refusal) (i : ℕ) → Keeps (started_by t i)
+  started_within (Ok T.Passed) i p le = le
+  started_within (Ok T.Failed) i p le = le
+  started_within (Err n) i p le = le
 
   offer_within : (b : Bool) (f : ℕ → Tried) → Keeps f → Keeps (offer b f)
   offer_within true f keeps p le = keeps p le
@@ -69,7 +71,7 @@ module _ (budget : ℕ) where
   past_within true e = omega arith
   past_within false e = omega (arith, leb-false budget 0 e)
 
-  module _ (to_parent : ℕ → Option ℕ → Trial) (from_start : ℕ → Trial) (reaches : ℕ → ℕ → Bool) where
+  module _ (to_parent : ℕ → Option ℕ → Result Trial Refusal) (from_start : ℕ → Result Trial Refusal) (reaches : ℕ → ℕ → Bool) where
     abbrev children : ℕ → ℕ → ℕ → Tried
     children = R.try_children to_parent from_start reaches budget
 
@@ -87,17 +89,17 @@ module _ (budget : ℕ) where
     unfolding R.try_children
     children_within i zero p le = started_within (from_start i) i p le
     children_within i (suc k) p le =
-        let hint : ℕ → Tried = hint_by (children k k) k (some i) in
+        let hint : ℕ → Tried = hint_by (children k k) k (Some i) in
         after_within (offer (reaches k i) hint p) i (λ q. popped (leb budget q) (children i k) q)
-        (offer_within (reaches k i) hint (hint_within k (some i) (children k k) (children_within k k)) p le)
+        (offer_within (reaches k i) hint (hint_within k (Some i) (children k k) (children_within k k)) p le)
         (popped_within (children i k) (children_within i k))
 
     roots_within : (n r p : ℕ) → p ≤ budget → pops_of (roots n r p) ≤ budget
     unfolding R.try_roots R.try_hint
     roots_within zero r p le = le
     roots_within (suc n) r p le =
-        rooted_within (hint_by (children r r) r none p) (roots n (r + 1))
-        (hint_within r none (children r r) (children_within r r) p le)
+        rooted_within (hint_by (children r r) r None p) (roots n (r + 1))
+        (hint_within r None (children r r) (children_within r r) p le)
         (roots_within n (r + 1))
 
     module _ (count : ℕ) where
@@ -107,8 +109,8 @@ module _ (budget : ℕ) where
 
       pub pops_within : (r : Option ℕ) → pops_of (R.recursive_search to_parent from_start reaches count budget r) ≤ budget
       unfolding R.recursive_search
-      pops_within none = omega arith
-      pops_within (some r) = from_within (ltb r count) r
+      pops_within None = omega arith
+      pops_within (Some r) = from_within (ltb r count) r
 
       -- The same of the stack machine.
       pub stack_within : (r : Option ℕ) (a : Chained) →

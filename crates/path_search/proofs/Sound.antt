@@ -4,7 +4,7 @@
 use mathlib.Core.Path.{◌≡◌, refl}
 use mathlib.Core.Bool.{Bool, true, false}
 use mathlib.Core.List.{List}
-use mathlib.Core.Option.{Option, none, some}
+use Rattle.std.specs.Prelude.{Option, Some, None}
 use Prim.Native.Nat.{ℕ, zero, suc, ◌+◌, ◌-◌, ◌≤◌, ◌<◌}
 use native.Mathlib.Omega.{arith}
 use borrow.Author.Tests.{ltb-true}
@@ -18,8 +18,10 @@ use Rattle.path_search.specs.Recursive.{Tried, Found, Blocked, Unreached, Stoppe
 use Rattle.path_search.specs.Recursive.{popped, arrived_by, started_by, offer, after_child, at_root}
 use Rattle.path_search.specs.Safe.{SafeChain, SafeWay, one, more}
 use Rattle.path_search.proofs.Agree.{stack_is_recursion}
+use Rattle.std.specs.Prelude.{Result, Ok, Err}
+use Rattle.refusals.specs.declared.Refusal.{Refusal}
 
-module _ (to_parent : ℕ → Option ℕ → Trial) (from_start : ℕ → Trial) (reaches : ℕ → ℕ → Bool) where
+module _ (to_parent : ℕ → Option ℕ → Result Trial Refusal) (from_start : ℕ → Result Trial Refusal) (reaches : ℕ → ℕ → Bool) where
   -- Where a chain was found, it leads safely to i,
   abbrev Safe : ℕ → Tried → Type 0
   Safe i (Found l p) = SafeChain to_parent from_start reaches l i
@@ -29,7 +31,7 @@ module _ (to_parent : ℕ → Option ℕ → Trial) (from_start : ℕ → Trial)
 
   -- and from there to the parent.
   abbrev SafeTo : ℕ → Option ℕ → Tried → Type 0
-  SafeTo i parent (Found l p) = SafeChain to_parent from_start reaches l i × (to_parent i parent ≡ T.Passed)
+  SafeTo i parent (Found l p) = SafeChain to_parent from_start reaches l i × (to_parent i parent ≡ (Ok T.Passed))
   SafeTo i parent (Blocked p) = Unit {0}
   SafeTo i parent (Unreached p) = Unit {0}
   SafeTo i parent (Stopped n p) = Unit {0}
@@ -48,30 +50,30 @@ module _ (to_parent : ℕ → Option ℕ → Trial) (from_start : ℕ → Trial)
   popped_to i parent true f p safe = tt
   popped_to i parent false f p safe = safe (p + 1)
 
-  passed_to : (i : ℕ) (parent : Option ℕ) (t : Tried) → Safe i t → to_parent i parent ≡ T.Passed → SafeTo i parent t
+  passed_to : (i : ℕ) (parent : Option ℕ) (t : Tried) → Safe i t → to_parent i parent ≡ (Ok T.Passed) → SafeTo i parent t
   passed_to i parent (Found l p) safe e = (safe, e)
   passed_to i parent (Blocked p) safe e = tt
   passed_to i parent (Unreached p) safe e = tt
   passed_to i parent (Stopped n p) safe e = tt
 
-  arrived_to : (i : ℕ) (parent : Option ℕ) (t : Trial) (f : ℕ → Tried) (p : ℕ) → to_parent i parent ≡ t →
+  arrived_to : (i : ℕ) (parent : Option ℕ) (t : Result Trial Refusal) (f : ℕ → Tried) (p : ℕ) → to_parent i parent ≡ t →
       ((q : ℕ) → Safe i (f q)) → SafeTo i parent (arrived_by t f p)
-  arrived_to i parent T.Passed f p e safe = passed_to i parent (f p) (safe p) e
-  arrived_to i parent T.Failed f p e safe = tt
-  arrived_to i parent (T.Refused n) f p e safe = tt
+  arrived_to i parent (Ok T.Passed) f p e safe = passed_to i parent (f p) (safe p) e
+  arrived_to i parent (Ok T.Failed) f p e safe = tt
+  arrived_to i parent (Err n) f p e safe = tt
 
-  started_safe : (i : ℕ) (t : Trial) (p : ℕ) → from_start i ≡ t → Safe i (started_by t i p)
-  started_safe i T.Passed p e = one e
-  started_safe i T.Failed p e = tt
-  started_safe i (T.Refused n) p e = tt
+  started_safe : (i : ℕ) (t : Result Trial Refusal) (p : ℕ) → from_start i ≡ t → Safe i (started_by t i p)
+  started_safe i (Ok T.Passed) p e = one e
+  started_safe i (Ok T.Failed) p e = tt
+  started_safe i (Err n) p e = tt
 
   -- The chain of a child k that was tried is one of i, with i behind it (RULES 13.13, 13.14).
   after_safe : (k i : ℕ) (tried : Bool) (f : ℕ → Tried) (p : ℕ) (go : ℕ → Tried) → k < i → reaches k i ≡ tried →
-      ((q : ℕ) → SafeTo k (some i) (f q)) → ((q : ℕ) → Safe i (go q)) → Safe i (after_child (offer tried f p) i go)
+      ((q : ℕ) → SafeTo k (Some i) (f q)) → ((q : ℕ) → Safe i (go q)) → Safe i (after_child (offer tried f p) i go)
   after_safe k i false f p go lower e child safe = safe p
   after_safe k i true f p go lower e child safe = by (f p) (child p)
     where
-      by : (t : Tried) → SafeTo k (some i) t → Safe i (after_child t i go)
+      by : (t : Tried) → SafeTo k (Some i) t → Safe i (after_child t i go)
       by (Found l q) found = more found.0 lower e found.1
       by (Blocked q) found = safe q
       by (Unreached q) found = safe q
@@ -90,21 +92,21 @@ module _ (to_parent : ℕ → Option ℕ → Trial) (from_start : ℕ → Trial)
     hint_safe : (i : ℕ) (parent : Option ℕ) (f : ℕ → Tried) → ((q : ℕ) → Safe i (f q)) → (p : ℕ) →
         SafeTo i parent (hint_by f i parent p)
     hint_safe i parent f safe p =
-        let t : Trial = to_parent i parent in
+        let t : Result Trial Refusal = to_parent i parent in
         popped_to i parent (leb budget p) (arrived_by t f) p (λ q. arrived_to i parent t f q refl safe)
 
     children_safe : (i k p : ℕ) → k ≤ i → Safe i (children i k p)
     unfolding R.try_children
     children_safe i zero p le = started_safe i (from_start i) p refl
     children_safe i (suc k) p le =
-        after_safe k i (reaches k i) (hint_by (children k k) k (some i)) p (λ q. popped (leb budget q) (children i k) q)
+        after_safe k i (reaches k i) (hint_by (children k k) k (Some i)) p (λ q. popped (leb budget q) (children i k) q)
         (omega arith)
         refl
-        (hint_safe k (some i) (children k k) (λ q. children_safe k k q (omega arith)))
+        (hint_safe k (Some i) (children k k) (λ q. children_safe k k q (omega arith)))
         (λ q. popped_safe i (leb budget q) (children i k) q (λ r. children_safe i k r (omega arith)))
 
     module _ (count : ℕ) where
-      rooted_safe : (r : ℕ) (t : Tried) (f : ℕ → Chained) → r < count → SafeTo r none t →
+      rooted_safe : (r : ℕ) (t : Tried) (f : ℕ → Chained) → r < count → SafeTo r None t →
           ((q : ℕ) → SafeAnswer count (f q)) → SafeAnswer count (at_root t f)
       rooted_safe r (Found l p) f there found safe = record { last = r; there = there; chain = found.0; goal = found.1 }
       rooted_safe r (Blocked p) f there found safe = safe p
@@ -115,9 +117,9 @@ module _ (to_parent : ℕ → Option ℕ → Trial) (from_start : ℕ → Trial)
       unfolding R.try_roots R.try_hint
       roots_safe zero r p e = tt
       roots_safe (suc n) r p e =
-          rooted_safe r (hint_by (children r r) r none p) (roots n (r + 1))
+          rooted_safe r (hint_by (children r r) r None p) (roots n (r + 1))
           (omega arith)
-          (hint_safe r none (children r r) (λ q. children_safe r r q (omega arith)) p)
+          (hint_safe r None (children r r) (λ q. children_safe r r q (omega arith)) p)
           (λ q. roots_safe n (r + 1) q (omega arith))
 
       past_safe : (spent : Bool) → SafeAnswer count (R.past_last_root spent)
@@ -131,8 +133,8 @@ module _ (to_parent : ℕ → Option ℕ → Trial) (from_start : ℕ → Trial)
 
       answer_safe : (r : Option ℕ) → SafeAnswer count (R.recursive_search to_parent from_start reaches count budget r)
       unfolding R.recursive_search
-      answer_safe none = tt
-      answer_safe (some r) = from_safe r (ltb r count) refl
+      answer_safe None = tt
+      answer_safe (Some r) = from_safe r (ltb r count) refl
 
       pub path_sound : (r : Option ℕ) (l : List ℕ) (p : ℕ) →
           R.recursive_search to_parent from_start reaches count budget r ≡ Way l p → SafeWay to_parent from_start reaches count l

@@ -4,7 +4,7 @@
 use mathlib.Core.Path.{◌≡◌, refl, ap, ◌∙◌}
 use mathlib.Core.Bool.{Bool, true, false}
 use mathlib.Core.List.{List, [], ◌∷◌}
-use mathlib.Core.Option.{Option, none, some}
+use Rattle.std.specs.Prelude.{Option, Some, None}
 use Prim.Native.Nat.{ℕ, zero, suc, ◌+◌, ◌-◌, ◌<◌}
 use native.Mathlib.Omega.{arith}
 use borrow.Author.Tests.{leb-false}
@@ -14,18 +14,21 @@ use Rattle.path_search.specs.declared.trial.Trial.TheVariants as T
 use Rattle.path_search.specs.Answer.{Chained, NoWay, Refused}
 use Rattle.path_search.specs.Stack as S
 use Rattle.path_search.specs.Stack.{Element, State, Running, Done, with_tested, last, started}
+use Rattle.std.specs.Prelude.{Result, Ok, Err}
+use Rattle.refusals.specs.declared.Refusal.{Refusal}
+use Rattle.refusals.specs.declared.Refusal.TheVariants as Refusals
 
 -- The search has ended, or p pops are made.
 abbrev Made : ℕ → State → Type 0
 Made p (Done a) = Unit {0}
 Made p (Running s q) = q ≡ p
 
-started_made : (t : Trial) (e : Element) (s : List Element) (p : ℕ) → Made p (started t e s p)
-started_made T.Passed e s p = tt
-started_made T.Failed e s p = refl
-started_made (T.Refused n) e s p = tt
+started_made : (t : Result Trial Refusal) (e : Element) (s : List Element) (p : ℕ) → Made p (started t e s p)
+started_made (Ok T.Passed) e s p = tt
+started_made (Ok T.Failed) e s p = refl
+started_made (Err n) e s p = tt
 
-module _ (to_parent : ℕ → Option ℕ → Trial) (from_start : ℕ → Trial) (reaches : ℕ → ℕ → Bool) (count budget : ℕ) where
+module _ (to_parent : ℕ → Option ℕ → Result Trial Refusal) (from_start : ℕ → Result Trial Refusal) (reaches : ℕ → ℕ → Bool) (count budget : ℕ) where
   abbrev run : ℕ → State → State
   run = S.run to_parent from_start reaches count budget
 
@@ -43,14 +46,14 @@ module _ (to_parent : ℕ → Option ℕ → Trial) (from_start : ℕ → Trial)
   -- After its pop is counted a turn makes no other.
   into_made : (c : Option ℕ) (e : Element) (s : List Element) (p : ℕ) →
       Made p (S.into to_parent from_start reaches count budget c e s p)
-  into_made none e s p = started_made (from_start e.index) e s p
-  into_made (some c) e s p = refl
+  into_made None e s p = started_made (from_start e.index) e s p
+  into_made (Some c) e s p = refl
 
-  arrived_made : (t : Trial) (e : Element) (s : List Element) (p : ℕ) →
+  arrived_made : (t : Result Trial Refusal) (e : Element) (s : List Element) (p : ℕ) →
       Made p (S.arrived to_parent from_start reaches count budget t e s p)
-  arrived_made T.Passed e s p = into_made e.child (with_tested e) s p
-  arrived_made T.Failed e s p = refl
-  arrived_made (T.Refused n) e s p = tt
+  arrived_made (Ok T.Passed) e s p = into_made e.child (with_tested e) s p
+  arrived_made (Ok T.Failed) e s p = refl
+  arrived_made (Err n) e s p = tt
 
   visit_made : (b : Bool) (e : Element) (s : List Element) (p : ℕ) →
       Made p (S.visit to_parent from_start reaches count budget b e s p)
@@ -72,7 +75,7 @@ module _ (to_parent : ℕ → Option ℕ → Trial) (from_start : ℕ → Trial)
 
   counted_back : (n p : ℕ) (e : Element) (s : List Element) (a : Chained) → budget - p < suc n →
       (b : Bool) → leb budget p ≡ b → Ends (counted b e s p) a → run n (counted b e s p) ≡ Done a
-  counted_back n p e s a left true spent h = run_done n (Refused 11 p) ∙ ap Done h
+  counted_back n p e s a left true spent h = run_done n (Refused Refusals.Spent p) ∙ ap Done h
   counted_back n p e s a left false spent h =
       let there = ltb e.index count in
       let within : p < budget = leb-false budget p spent in

@@ -2,11 +2,13 @@
 -- (RULES 13.10 to 13.22). No recursive call stands under a test: each is handed on as a function.
 -- Assumes nothing.
 use Rattle.std.specs.Prelude.{ℕ, zero, suc, ◌+◌, ◌-◌, Bool, true, false, List, [], ◌∷◌, ◌++◌, ltb, leb}
-use Rattle.std.proofs.Math.Option.{Option, none, some}
-use Rattle.refusals.specs.Names.{SPENT}
+use Rattle.std.specs.Prelude.{Option, Some, None}
+use Rattle.refusals.specs.declared.Refusal.TheVariants as Refusals
 use Rattle.path_search.specs.declared.trial.Trial.{Trial}
 use Rattle.path_search.specs.declared.trial.Trial.TheVariants as T
 use Rattle.path_search.specs.Answer.{Chained, Way, NoWay, Refused}
+use Rattle.std.specs.Prelude.{Result, Ok, Err}
+use Rattle.refusals.specs.declared.Refusal.{Refusal}
 
 -- What trying a hint comes to, with the pops made: the hints from the one that the start reaches to the one tried; its way to its
 -- parent is not safe (RULES 13.11); that way is safe and no way to the hint is (RULES 13.17); or a refusal.
@@ -14,24 +16,24 @@ pub data Tried : Type 0 where
   Found : List ℕ → ℕ → Tried
   Blocked : ℕ → Tried
   Unreached : ℕ → Tried
-  Stopped : ℕ → ℕ → Tried
+  Stopped : Refusal → ℕ → Tried
 
 -- One pop more, within the budget (RULES 13.21).
 abbrev pub popped : Bool → (ℕ → Tried) → ℕ → Tried
-popped true go p = Stopped SPENT p
+popped true go p = Stopped Refusals.Spent p
 popped false go p = go (p + 1)
 
 -- By the test of the way to the parent (RULES 13.10, 13.11).
-abbrev pub arrived_by : Trial → (ℕ → Tried) → ℕ → Tried
-arrived_by T.Passed go p = go p
-arrived_by T.Failed go p = Blocked p
-arrived_by (T.Refused n) go p = Stopped n p
+abbrev pub arrived_by : Result Trial Refusal → (ℕ → Tried) → ℕ → Tried
+arrived_by (Ok T.Passed) go p = go p
+arrived_by (Ok T.Failed) go p = Blocked p
+arrived_by (Err why) go p = Stopped why p
 
 -- By the test of the own start (RULES 13.16, 13.17).
-abbrev pub started_by : Trial → ℕ → ℕ → Tried
-started_by T.Passed i p = Found (i ∷ []) p
-started_by T.Failed i p = Unreached p
-started_by (T.Refused n) i p = Stopped n p
+abbrev pub started_by : Result Trial Refusal → ℕ → ℕ → Tried
+started_by (Ok T.Passed) i p = Found (i ∷ []) p
+started_by (Ok T.Failed) i p = Unreached p
+started_by (Err n) i p = Stopped n p
 
 -- A child is tried where its reach is at most its parent's, and passed over otherwise (RULES 13.13).
 abbrev pub offer : Bool → (ℕ → Tried) → ℕ → Tried
@@ -54,11 +56,11 @@ at_root (Stopped n p) go = Refused n p
 
 -- A first root that no hint has is popped and dropped.
 abbrev pub past_last_root : Bool → Chained
-past_last_root true = Refused SPENT 0
+past_last_root true = Refused Refusals.Spent 0
 past_last_root false = NoWay 1
 
 -- The tests are those of Stack.
-module _ (to_parent : ℕ → Option ℕ → Trial) (from_start : ℕ → Trial) (reaches : ℕ → ℕ → Bool) (budget : ℕ) where
+module _ (to_parent : ℕ → Option ℕ → Result Trial Refusal) (from_start : ℕ → Result Trial Refusal) (reaches : ℕ → ℕ → Bool) (budget : ℕ) where
   -- Hint i under its parent, given what its children come to.
   abbrev pub hint_by : (ℕ → Tried) → ℕ → Option ℕ → ℕ → Tried
   hint_by children i parent p = popped (leb budget p) (arrived_by (to_parent i parent) children) p
@@ -67,7 +69,7 @@ module _ (to_parent : ℕ → Option ℕ → Trial) (from_start : ℕ → Trial)
   unfoldable pub try_children : ℕ → ℕ → ℕ → Tried
   try_children i zero p = started_by (from_start i) i p
   try_children i (suc k) p =
-      after_child (offer (reaches k i) (hint_by (try_children k k) k (some i)) p) i
+      after_child (offer (reaches k i) (hint_by (try_children k k) k (Some i)) p) i
       (λ q. popped (leb budget q) (try_children i k) q)
 
   unfoldable pub try_hint : ℕ → Option ℕ → ℕ → Tried
@@ -76,21 +78,21 @@ module _ (to_parent : ℕ → Option ℕ → Trial) (from_start : ℕ → Trial)
   -- A child of i, where it is in reach (RULES 13.13).
   unfoldable pub try_child : ℕ → ℕ → ℕ → Tried
   unfolding try_hint
-  try_child child i p = offer (reaches child i) (try_hint child (some i)) p
+  try_child child i p = offer (reaches child i) (try_hint child (Some i)) p
 
   -- The roots from r on, n of them (RULES 13.18).
   unfoldable pub try_roots : ℕ → ℕ → ℕ → Chained
   try_roots zero r p = NoWay p
-  try_roots (suc n) r p = at_root (try_hint r none p) (try_roots n (r + 1))
+  try_roots (suc n) r p = at_root (try_hint r None p) (try_roots n (r + 1))
 
-module _ (to_parent : ℕ → Option ℕ → Trial) (from_start : ℕ → Trial) (reaches : ℕ → ℕ → Bool) (count budget : ℕ) where
+module _ (to_parent : ℕ → Option ℕ → Result Trial Refusal) (from_start : ℕ → Result Trial Refusal) (reaches : ℕ → ℕ → Bool) (count budget : ℕ) where
   abbrev pub from_root : Bool → ℕ → Chained
   from_root true r = try_roots to_parent from_start reaches budget (count - r) r 0
   from_root false r = past_last_root (leb budget 0)
 
   abbrev pub from_first : Option ℕ → Chained
-  from_first none = NoWay 0
-  from_first (some r) = from_root (ltb r count) r
+  from_first None = NoWay 0
+  from_first (Some r) = from_root (ltb r count) r
 
   -- The whole search from its first root; `stack_is_recursion` of proofs/Agree says that it is the stack's.
   unfoldable pub recursive_search : Option ℕ → Chained

@@ -3,25 +3,26 @@ ghost use Rattle.std.specs.Prelude.{◌≡◌, length, get_or};
 ghost use Rattle.path_search.specs.Links.{links_in, linked_to};
 ghost use Rattle.path_search.specs.Handed.{tried_to};
 
-// A chain was found; the hint's way to its parent is not safe; that way is safe, and no way to the hint is; or a refusal.
-#[derive(Clone, Copy)]
+use refusals::Refusal;
+
+// A chain was found; the hint's way to its parent is not safe; or that way is safe, and no way to the hint is.
+#[derive(Clone, Copy, Debug, PartialEq, Eq)]
 pub enum Ending {
     Found,
     Blocked,
     Unreached,
-    Refused(u64),
 }
 
-// How trying ended, and the pops made so far. A chain that was found stands in a list that the caller lends: the count of its
-// links, then they, hints by their index, the first to be waited at first.
-#[derive(Clone, Copy)]
+// How trying ended, or why it was refused, and the pops made so far. A chain that was found stands in a list that the caller lends:
+// the count of its links, then they, hints by their index, the first to be waited at first.
+#[derive(Clone, Copy, Debug, PartialEq, Eq)]
 pub struct Tried {
-    pub ending: Ending,
+    pub ending: Result<Ending, Refusal>,
     pub pops: u64,
 }
 
 impl Tried {
-    pub fn ended(ending: Ending, pops: u64) -> Tried
+    pub fn ended(ending: Result<Ending, Refusal>, pops: u64) -> Tried
         ensures { result ≡ tried_to ending pops }
     {
         Tried { ending, pops }
@@ -50,6 +51,7 @@ pub fn link_at(chain: &[u64; 65], k: usize) -> usize
 }
 
 // One link more behind the others, where there is room.
+#[tactic(auto, unfolding(crate::specs::Links::linked_to))]
 pub fn add_link(chain: &mut [u64; 65], i: usize)
     ensures { chain.new ≡ linked_to chain.old i }
 {

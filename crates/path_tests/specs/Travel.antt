@@ -13,8 +13,9 @@ use Rattle.shapes.specs.declared.vector.Vector.{Vector}
 use Rattle.shapes.specs.declared.waypoint.Waypoint.{Waypoint}
 use Rattle.courses.specs.Norm.{norm_of}
 use Rattle.hint_list.specs.declared.hint.WaitHint.{WaitHint}
-use Rattle.path_tests.specs.declared.travel.Reached.{Reached}
-use Rattle.path_tests.specs.declared.travel.Reached.TheVariants as W
+use Rattle.std.specs.Prelude.{Result, Ok, Err}
+use Rattle.refusals.specs.declared.Refusal.{Refusal}
+use Rattle.refusals.specs.declared.Refusal.TheVariants as Refusals
 
 -- At a place and a time.
 abbrev pub waypoint_at : Vector → TimePoint → Waypoint
@@ -25,13 +26,13 @@ unfoldable pub hint_waypoint : WaitHint → Waypoint
 hint_waypoint h = waypoint_at h.place h.until
 
 -- The distance divided by the speed, as seconds after the time of the waypoint that is left (RULES 13.3).
-unfoldable pub reached_from : Float → Waypoint → Vector → Reached
+unfoldable pub reached_from : Float → Waypoint → Vector → Result Waypoint Refusal
 reached_from speed from place =
-    with_root (W.Refused NUMBER) (norm_of (vector_difference place (place_of from))) (λ distance.
-    with_instant (W.Refused STRAYED) (instant_after_seconds from.time (Ieee.div binary64 distance speed)) (λ t.
-    W.At (waypoint_at place t)))
+    with_root (Err Refusals.Number) (norm_of (vector_difference place (place_of from))) (λ distance.
+    with_instant (Err Refusals.Strayed) (instant_after_seconds from.time (Ieee.div binary64 distance speed)) (λ t.
+    Ok (waypoint_at place t)))
 
 -- Going on with the waypoint that is reached, or with the number of the refusal.
-abbrev pub with_reached : {A : Type 0} → (ℕ → A) → Reached → (Waypoint → A) → A
-with_reached refused (W.At w) go = go w
-with_reached refused (W.Refused n) go = refused n
+abbrev pub with_reached : {A : Type 0} → (Refusal → A) → Result Waypoint Refusal → (Waypoint → A) → A
+with_reached refused (Ok w) go = go w
+with_reached refused (Err n) go = refused n

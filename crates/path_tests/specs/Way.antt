@@ -11,24 +11,26 @@ use Rattle.table.specs.Obstacle.{Obstacle}
 use Rattle.segments.specs.Segment.{segment_of}
 use Rattle.path_search.specs.declared.trial.Trial.{Trial}
 use Rattle.path_search.specs.declared.trial.Trial.TheVariants as T
+use Rattle.std.specs.Prelude.{Result, Ok, Err}
+use Rattle.refusals.specs.declared.Refusal.{Refusal}
 
 -- A verdict as a test: a clear segment passes it.
-abbrev pub trial_of : Verdict → Trial
-trial_of J.Clear = T.Passed
-trial_of J.Conflict = T.Failed
-trial_of (J.Refused n) = T.Refused n
+abbrev pub trial_of : Result Verdict Refusal → Result Trial Refusal
+trial_of (Ok J.Clear) = Ok T.Passed
+trial_of (Ok J.Conflict) = Ok T.Failed
+trial_of (Err n) = Err n
 
 -- The segment from one waypoint to another, in the box of the agent's footprint (RULES 9.7).
-unfoldable pub way_of : CircularProfile → List Obstacle → Waypoint → Waypoint → Trial
+unfoldable pub way_of : CircularProfile → List Obstacle → Waypoint → Waypoint → Result Trial Refusal
 way_of p os from to =
     let leg : Leg = record { start = from; end = to } in
     trial_of (segment_of leg (box_of_leg p.footprint leg) os)
 
 -- What follows a test that is passed; else that test's own end (RULES 5.8).
-abbrev pub next : Trial → (Unit {0} → Trial) → Trial
-next T.Passed go = go tt
-next T.Failed go = T.Failed
-next (T.Refused n) go = T.Refused n
+abbrev pub next : Result Trial Refusal → (Unit {0} → Result Trial Refusal) → Result Trial Refusal
+next (Ok T.Passed) go = go tt
+next (Ok T.Failed) go = Ok T.Failed
+next (Err n) go = Err n
 
-unfoldable pub both_ways : CircularProfile → List Obstacle → Waypoint → Waypoint → Waypoint → Trial
+unfoldable pub both_ways : CircularProfile → List Obstacle → Waypoint → Waypoint → Waypoint → Result Trial Refusal
 both_ways p os from via to = next (way_of p os from via) (λ _. way_of p os via to)

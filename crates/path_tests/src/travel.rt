@@ -4,19 +4,12 @@ ghost use Rattle.path_tests.specs.Travel.{hint_waypoint, reached_from};
 
 use courses::norm;
 use hint_list::hint::WaitHint;
-use root::nearest::Root;
+use refusals::Refusal;
 use shapes::vector::Vector;
 use shapes::waypoint::Waypoint;
-use times::time::Instant;
-
-// A waypoint, or a refusal and its number.
-#[derive(Clone, Copy)]
-pub enum Reached {
-    At(Waypoint),
-    Refused(u64),
-}
 
 // The waypoint of a hint: its place, at the end of the wait.
+#[tactic(auto, unfolding(crate::specs::Travel::hint_waypoint))]
 pub fn waypoint_of(hint: WaitHint) -> Waypoint
     ensures { result ≡ hint_waypoint hint }
 {
@@ -30,18 +23,13 @@ pub fn waypoint_of(hint: WaitHint) -> Waypoint
 }
 
 // The waypoint at a place that the agent reaches from another at this speed.
-pub fn arrival_at(speed: f64, from: Waypoint, place: Vector) -> Reached
+#[tactic(auto, unfolding(crate::specs::Travel::reached_from))]
+pub fn arrival_at(speed: f64, from: Waypoint, place: Vector) -> Result<Waypoint, Refusal>
     ensures { result ≡ reached_from speed from place }
 {
-    let long = norm::norm(place.minus(from.place()));
-    let Root::Of(distance) = long else {
-        return Reached::Refused(refusals::NUMBER);
-    };
-    let arrival = from.time.plus_secs_f64(distance / speed);
-    let Instant::At(time) = arrival else {
-        return Reached::Refused(refusals::STRAYED);
-    };
-    Reached::At(Waypoint {
+    let distance = norm::norm(place.minus(from.place()))?;
+    let time = from.time.plus_secs_f64(distance / speed)?;
+    Ok(Waypoint {
         time,
         x: place.x,
         y: place.y,

@@ -5,18 +5,20 @@ ghost use Rattle.path_tests.specs.Way.{way_of, both_ways};
 
 use conflicts::conflict::Verdict;
 use path_search::trial::Trial;
+use refusals::Refusal;
 use segments::segment;
 use shapes::bounding_box::BoundingBox;
 use shapes::profile::CircularProfile;
 use shapes::waypoint::{Leg, Waypoint};
 
+#[tactic(auto, unfolding(crate::specs::Way::way_of, table::specs::Table::obstacles_in))]
 pub fn safe_way(
     profile: CircularProfile,
     from: Waypoint,
     to: Waypoint,
     marks: &[u64; 417],
     places: &[f64; 800],
-) -> Trial
+) -> Result<Trial, Refusal>
     ensures { result ≡ way_of profile (obstacles_in marks.now places.now) from to }
 {
     let leg = Leg {
@@ -24,15 +26,14 @@ pub fn safe_way(
         end: to,
     };
     let bounds = BoundingBox::for_line(profile.footprint, leg);
-    let verdict = segment::is_safe_segment(leg, bounds, marks, places);
-    match verdict {
-        Verdict::Clear => Trial::Passed,
-        Verdict::Conflict => Trial::Failed,
-        Verdict::Refused(n) => Trial::Refused(n),
+    match segment::is_safe_segment(leg, bounds, marks, places)? {
+        Verdict::Clear => Ok(Trial::Passed),
+        Verdict::Conflict => Ok(Trial::Failed),
     }
 }
 
 // Two ways in a row: the second is tested only where the first is safe.
+#[tactic(auto, unfolding(crate::specs::Way::both_ways, table::specs::Table::obstacles_in))]
 pub fn both_ways(
     profile: CircularProfile,
     from: Waypoint,
@@ -40,12 +41,11 @@ pub fn both_ways(
     to: Waypoint,
     marks: &[u64; 417],
     places: &[f64; 800],
-) -> Trial
+) -> Result<Trial, Refusal>
     ensures { result ≡ both_ways profile (obstacles_in marks.now places.now) from via to }
 {
-    let first = safe_way(profile, from, via, marks, places);
-    let Trial::Passed = first else {
-        return first;
-    };
-    safe_way(profile, via, to, marks, places)
+    match safe_way(profile, from, via, marks, places)? {
+        Trial::Passed => safe_way(profile, via, to, marks, places),
+        Trial::Failed => Ok(Trial::Failed),
+    }
 }

@@ -7,7 +7,6 @@ use Rattle.times.proofs.Integers.{at-most→not-below}
 use Rattle.shapes.specs.Box.{box_of_leg}
 use Rattle.domain.specs.Domain.{is_leg}
 use Rattle.shapes.specs.Leg.{is_backward, is_brief}
-use Rattle.domain.specs.declared.limits.Examined.TheVariants as X
 use Rattle.shapes.specs.declared.profile.CircularProfile.{CircularProfile}
 use Rattle.shapes.specs.declared.waypoint.Leg.{Leg}
 use Rattle.domain.proofs.Within.{leg_end}
@@ -18,8 +17,9 @@ use Rattle.hints.specs.Asked.{asked_hints}
 use Rattle.hints.specs.Contour.{ranked_hints}
 use Rattle.arrival_times.specs.Asked.{asked_arrivals}
 use Rattle.arrival_legs.specs.Watched.{arrivals_at}
+use Rattle.std.specs.Prelude.{Ok}
 
-module _ (p : CircularProfile) (agent : Leg) (lent : Lent) (fine : agent_examined p agent lent ≡ X.Fine) where
+module _ (p : CircularProfile) (agent : Leg) (lent : Lent) (fine : agent_examined p agent lent ≡ (Ok tt)) where
   -- ---- The hints.
 
   pub hints_alone : is_brief agent ≡ false →
@@ -33,7 +33,7 @@ module _ (p : CircularProfile) (agent : Leg) (lent : Lent) (fine : agent_examine
   stay = record { start = agent.end; end = agent.end }
 
   -- An agent that stands at its goal is fine as well.
-  stay_fine : agent_examined p stay lent ≡ X.Fine
+  stay_fine : agent_examined p stay lent ≡ (Ok tt)
   unfolding agent_examined table_examined is_backward is_leg
   stay_fine =
       let f = fine_fits (is_laid lent) p agent (obstacles_of lent) fine in

@@ -16,8 +16,9 @@ use Rattle.one_path.specs.Path as P
 use Rattle.one_path.specs.Path.{path_for}
 use Rattle.plan_model.specs.Plan.{Path, Paths, Of, Refused, first, sought, paths_for}
 use Rattle.plan_claims.specs.Whole.{arrivals_of, InTurn, ended, found, missing}
+use Rattle.refusals.specs.declared.Refusal.{Refusal}
 
-not_given : {n : ℕ} {ps : List Path} → Refused n ≡ Of ps → ⊥
+not_given : {n : Refusal} {ps : List Path} → Refused n ≡ Of ps → ⊥
 not_given e = true≢false (cc e)
 
 module _ (trip : Trip) (os : List Obstacle) (hints : List RankedHint) (budget : ℕ) where

@@ -7,7 +7,6 @@ use mathlib.Core.Bool.{true, false}
 use Rattle.times.specs.declared.time.Duration.{Duration}
 use Rattle.shapes.specs.Box.{box_of_leg}
 use Rattle.shapes.specs.Leg.{is_brief}
-use Rattle.domain.specs.declared.limits.Examined.TheVariants as X
 use Rattle.shapes.specs.declared.profile.CircularProfile.{CircularProfile}
 use Rattle.shapes.specs.declared.waypoint.Leg.{Leg}
 use Rattle.table.specs.Examined.{agent_examined}
@@ -17,12 +16,13 @@ use Rattle.hint_ranking.specs.Ranked.{sorted}
 use Rattle.hint_walk.specs.Walk.{hints_of}
 use Rattle.hints.specs.Asked.{asked_hints}
 use Rattle.hints.proofs.Answered.{Refusal, asked_answered}
-use Rattle.path_search.specs.declared.trial.First.TheVariants.{Missing, Root}
 use Rattle.path_roots.specs.Roots.{first_root}
 use Rattle.path_roots.proofs.Chosen.{Chosen, AllBelow, chosen, all_below}
 use Rattle.plan_claims.proofs.Rising.{sorted_rises}
+use Rattle.std.specs.Prelude.{Ok}
+use Rattle.std.specs.Prelude.{Some, None}
 
-module _ (p : CircularProfile) (agent : Leg) (lent : Lent) (fine : agent_examined p agent lent ≡ X.Fine)
+module _ (p : CircularProfile) (agent : Leg) (lent : Lent) (fine : agent_examined p agent lent ≡ (Ok tt))
     (lasts : is_brief agent ≡ false) where
   hints_sorted : sorted (ranked_in (asked_hints p agent lent)) ≡ true
   unfolding sorted
@@ -33,11 +33,11 @@ module _ (p : CircularProfile) (agent : Leg) (lent : Lent) (fine : agent_examine
       refused r = rw r.alone
 
   -- The root has the lowest contour that is not below the goal's, and is the last with that contour;
-  pub root_chosen : (goal : Duration) (i : ℕ) → first_root goal (ranked_in (asked_hints p agent lent)) ≡ Root i →
+  pub root_chosen : (goal : Duration) (i : ℕ) → first_root goal (ranked_in (asked_hints p agent lent)) ≡ Some i →
       Chosen goal (ranked_in (asked_hints p agent lent)) i
   root_chosen goal i = chosen goal (ranked_in (asked_hints p agent lent)) i (sorted_rises (ranked_in (asked_hints p agent lent)) hints_sorted)
 
   -- there is none where every contour is below the goal's.
-  pub root_missing : (goal : Duration) → first_root goal (ranked_in (asked_hints p agent lent)) ≡ Missing →
+  pub root_missing : (goal : Duration) → first_root goal (ranked_in (asked_hints p agent lent)) ≡ None →
       AllBelow goal (ranked_in (asked_hints p agent lent))
   root_missing goal = all_below goal (ranked_in (asked_hints p agent lent))

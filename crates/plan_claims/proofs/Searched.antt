@@ -4,7 +4,7 @@ use Prim.Native.Nat.{ℕ, ◌≤◌, ◌<◌}
 use mathlib.Core.Path.{◌≡◌}
 use mathlib.Core.Bool.{false}
 use mathlib.Core.List.{List}
-use mathlib.Core.Option.{Option}
+use Rattle.std.specs.Prelude.{Option}
 use lib.ListN.{length}
 use Rattle.table.specs.Obstacle.{Obstacle}
 use Rattle.hint_list.specs.declared.hint.RankedHint.{RankedHint}
@@ -18,12 +18,15 @@ use Rattle.path_search.proofs.Pops.{pops_within}
 use Rattle.path_search.proofs.Sound.{path_sound}
 use Rattle.path_tests.specs.declared.trip.Trip.{Trip}
 use Rattle.path_chains.specs.Trying.{to_parent, starts_at, reaches, chain_from}
+use Rattle.std.specs.Prelude.{Result}
+use Rattle.refusals.specs.declared.Refusal.{Refusal}
+use Rattle.refusals.specs.declared.Refusal.TheVariants as Refusals
 
 module _ (trip : Trip) (os : List Obstacle) (hints : List RankedHint) where
-  abbrev parents : ℕ → Option ℕ → Trial
+  abbrev parents : ℕ → Option ℕ → Result Trial Refusal
   parents = to_parent trip os hints
 
-  abbrev starts : ℕ → Trial
+  abbrev starts : ℕ → Result Trial Refusal
   starts = starts_at trip os hints
 
   module _ (budget : ℕ) (first : Option ℕ) where
@@ -53,6 +56,6 @@ module _ (trip : Trip) (os : List Obstacle) (hints : List RankedHint) where
 
     -- and a smaller one is refused 11 where that answer took more pops than it has (RULES 13.21).
     pub spent : small < pops_of (chain_from trip os hints large first) →
-        chain_from trip os hints small first ≡ Refused 11 small
+        chain_from trip os hints small first ≡ Refused Refusals.Spent small
     unfolding chain_from
     spent = (budget_cut small large le parents starts (reaches hints) (length hints) first).short

@@ -7,7 +7,6 @@ use mathlib.Core.List.{List, Memᴰ}
 use native.Mathlib.Omega.{arith}
 use Rattle.times.specs.declared.time.TimePoint.{TimePoint}
 use Rattle.shapes.specs.Leg.{is_brief}
-use Rattle.domain.specs.declared.limits.Examined.TheVariants as X
 use Rattle.shapes.specs.declared.profile.CircularProfile.{CircularProfile}
 use Rattle.shapes.specs.declared.waypoint.Leg.{Leg}
 use Rattle.table.specs.Examined.{agent_examined}
@@ -32,6 +31,7 @@ use Rattle.plan_claims.proofs.InTurn.{Given, in_turn, few, all_arrivals, rise, a
 use Rattle.plan_claims.proofs.Made.{Made, made, examined}
 use Rattle.plan_claims.proofs.Origin.{origin}
 use Rattle.plan_claims.proofs.Searched.{few_pops}
+use Rattle.std.specs.Prelude.{Ok}
 
 -- ---- One path.
 
@@ -61,7 +61,7 @@ unfolding arrivals_at
 times_rise p agent os = Theorems.rising (view_at agent.end) (watched_all p os) agent.end.time
 
 module _ (p : CircularProfile) (agent : Leg) (budget : ℕ) (lent : Lent) where
-  long_claims : {hints times sweeps : ℕ} {ps : List Path} → is_brief agent ≡ false → agent_examined p agent lent ≡ X.Fine →
+  long_claims : {hints times sweeps : ℕ} {ps : List Path} → is_brief agent ≡ false → agent_examined p agent lent ≡ (Ok tt) →
       Made p agent budget (obstacles_of lent) hints times sweeps ps → Long p agent budget lent hints times sweeps ps
   long_claims {ps = ps} lasts fine m =
       let os = obstacles_of lent in

@@ -11,6 +11,7 @@ use Rattle.path_tests.specs.Way.{way_of}
 use Rattle.path_tests.specs.declared.trip.Trip.{Trip}
 use Rattle.path_actions.specs.declared.action.SafeAction.{SafeAction}
 use Rattle.path_actions.specs.declared.action.SafeAction.TheVariants.{Move, Wait}
+use Rattle.std.specs.Prelude.{Ok}
 
 -- The same place at another time.
 abbrev pub stayed_till : Waypoint → TimePoint → Waypoint
@@ -19,6 +20,6 @@ stayed_till w t = record { time = t; x = w.x; y = w.y }
 -- From a waypoint on: to the waypoint of each Move, staying there until the end of each Wait, and at last at the goal's place.
 abbrev pub SafeFrom : Trip → List Obstacle → Waypoint → List SafeAction → Type 0
 SafeFrom trip os from [] = place_of from ≡ place_of trip.leg.end
-SafeFrom trip os from (Move w ∷ rest) = (way_of trip.profile os from w ≡ Passed) × SafeFrom trip os w rest
+SafeFrom trip os from (Move w ∷ rest) = (way_of trip.profile os from w ≡ (Ok Passed)) × SafeFrom trip os w rest
 SafeFrom trip os from (Wait obstacle end ∷ rest) =
-    (way_of trip.profile os from (stayed_till from end) ≡ Passed) × SafeFrom trip os (stayed_till from end) rest
+    (way_of trip.profile os from (stayed_till from end) ≡ (Ok Passed)) × SafeFrom trip os (stayed_till from end) rest

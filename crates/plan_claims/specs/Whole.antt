@@ -15,7 +15,6 @@ use Rattle.hint_list.specs.declared.hint.RankedHint.{RankedHint}
 use Rattle.hints.specs.Asked.{asked_hints}
 use Rattle.hints.specs.Contour.{scale_of}
 use Rattle.hints.specs.declared.contour.Scale.{Scale}
-use Rattle.hints.specs.declared.contour.Scaling.TheVariants as L
 use Rattle.arrival_search.specs.Search.{Answered}
 use Rattle.arrival_search.specs.Sweeps.{All, Rising}
 use Rattle.arrival_times.specs.Asked.{asked_arrivals}
@@ -30,6 +29,7 @@ use Rattle.one_path.specs.Path.{path_for}
 use Rattle.plan_model.specs.Asked.{asked_plan}
 use Rattle.plan_model.specs.Plan.{Path, Planned, trip_of, short_plan}
 use Rattle.plan_claims.specs.Driven.{SafeFrom}
+use Rattle.std.specs.Prelude.{Ok}
 
 -- ---- Paths.
 
@@ -56,7 +56,7 @@ InTime actions =
 -- A path is one Move to the goal, whose test was passed, with no pops and no hold (RULES 13.5, 13.6); or it leads to the
 -- goal's place, all that is driven in it is safe, and its first arrival is in time (RULES 13.23, 13.24).
 pub data Sound (trip : Trip) (os : List Obstacle) (q : Path) : Type 0 where
-  direct : straight trip os q.arrival ≡ T.Passed → q.actions ≡ Move trip.leg.end ∷ [] → q.pops ≡ 0 → q.hold ≡ unheld →
+  direct : straight trip os q.arrival ≡ (Ok T.Passed) → q.actions ≡ Move trip.leg.end ∷ [] → q.pops ≡ 0 → q.hold ≡ unheld →
       Sound trip os q
   waiting : SafeFrom trip os trip.leg.start q.actions → InTime q.actions → Sound trip os q
 
@@ -67,7 +67,7 @@ module _ (p : CircularProfile) (agent : Leg) (budget : ℕ) (lent : Lent) where
   pub record Long (hints times sweeps : ℕ) (ps : List Path) : Type 0 where
     -- The agent's line has a speed (RULES 13.2).
     pub scale : Scale
-    pub line : scale_of agent ≡ L.By scale
+    pub line : scale_of agent ≡ Ok scale
     -- The hints are those that the call for hints alone answers (RULES 13.1),
     pub found : List RankedHint
     pub hinted : asked_hints p agent lent ≡ Of found

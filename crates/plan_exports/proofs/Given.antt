@@ -7,15 +7,16 @@ use native.Mathlib.Omega.{arith}
 use lib.ListN.{length, take, replicate, length-append, length-replicate}
 use lib.Seq.{take_at}
 use Rattle.hint_list.specs.Words.{count_in, all_words}
-use Rattle.hint_list.specs.declared.entries.Filled.{Filled}
 use Rattle.hint_list.proofs.Reading.{few, counted}
 use Rattle.hint_list.proofs.Words.{length_words}
 use Rattle.hint_ranking.specs.Hints.{Ranked, Of, Refused, Ranks, filled_by, ranked_words}
 use Rattle.hint_words.specs.Lent.{hints_outcome}
 use Rattle.plan_exports.specs.Given.{filled_outcome}
+use Rattle.std.specs.Prelude.{Result}
+use Rattle.refusals.specs.declared.Refusal.{Refusal}
 
 -- The list that an answer leaves has 385 words.
-pub ranks_long : (answer : Ranked) {left : List ℕ} {r : Filled} → Ranks answer left r → length left ≡ 385
+pub ranks_long : (answer : Ranked) {left : List ℕ} {r : Result ℕ Refusal} → Ranks answer left r → length left ≡ 385
 unfolding ranked_words
 ranks_long (Of l) {left} ranks =
     omega (
@@ -31,7 +32,7 @@ ranks_long (Of l) {left} ranks =
 ranks_long (Refused n) ranks = ap length ranks.words
 
 -- As many of them as there are hints, or the refusal, are handed over for the answer.
-pub ranks_given : (answer : Ranked) {left : List ℕ} {r : Filled} → Ranks answer left r →
+pub ranks_given : (answer : Ranked) {left : List ℕ} {r : Result ℕ Refusal} → Ranks answer left r →
     filled_outcome r (take (1 + 6 * count_in left) left) ≡ hints_outcome answer
 unfolding filled_by ranked_words hints_outcome
 ranks_given (Of l) {left} ranks =

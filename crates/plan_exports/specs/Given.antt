@@ -2,10 +2,11 @@
 -- Assumes nothing.
 use Rattle.std.specs.Prelude.{ℕ, List}
 use Rattle.lent.specs.Outcome.{Outcome, Gives, Refuses}
-use Rattle.hint_list.specs.declared.entries.Filled.{Filled}
-use Rattle.hint_list.specs.declared.entries.Filled.TheVariants as F
+use Rattle.std.specs.Prelude.{Result, Ok, Err}
+use Rattle.refusals.specs.declared.Refusal.{Refusal}
+use Rattle.refusals.specs.Names.{refusal_number}
 
 -- The words, or the refusal.
-abbrev pub filled_outcome : Filled → List ℕ → Outcome
-filled_outcome (F.Of n) words = Gives words
-filled_outcome (F.Refused number) words = Refuses number
+abbrev pub filled_outcome : Result ℕ Refusal → List ℕ → Outcome
+filled_outcome (Ok n) words = Gives words
+filled_outcome (Err why) words = Refuses (refusal_number why)

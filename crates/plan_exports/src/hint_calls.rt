@@ -7,19 +7,19 @@ ghost use Rattle.shapes.specs.Plain.{plain_leg, plain_profile};
 ghost use Rattle.plan_exports.specs.Given.{filled_outcome};
 
 use hint_list::entries;
-use hint_list::entries::Filled;
 use hints::calls;
 use lent::words;
+use refusals::Refusal;
 use shapes::legs;
 use shapes::profile::CircularProfile;
 
 // Hands over the words of hints, or their refusal.
-fn give_hints(filled: Filled, hints: &[u64], out: &mut [u64]) -> u64
+fn give_hints(filled: Result<usize, Refusal>, hints: &[u64], out: &mut [u64]) -> u64
     ensures { Handed (filled_outcome filled hints.now) out.old out.new result }
 {
     match filled {
-        Filled::Refused(number) => words::refuse(out, number),
-        Filled::Of(_count) => words::hand_over(out, hints),
+        Ok(_count) => words::hand_over(out, hints),
+        Err(why) => words::refuse(out, u64::from(why)),
     }
 }
 

@@ -1,7 +1,7 @@
 -- There are no more paths than arrival times (RULES 13.1).
 -- Assumes nothing.
 use Prim.Native.Nat.{ℕ, suc, ◌≤◌}
-use mathlib.Core.Path.{◌≡◌, sym, ◌∙◌}
+use mathlib.Core.Path.{◌≡◌, sym, ◌∙◌, ap}
 use mathlib.Core.Bool.{true≢false}
 use mathlib.Core.List.{List, [], ◌∷◌}
 use native.Mathlib.Omega.{arith}
@@ -17,8 +17,9 @@ use Rattle.one_path.specs.Path.{Sought, path_for}
 use Rattle.plan_model.specs.Plan as Q
 use Rattle.plan_model.specs.Plan.{Path, Of, Refused, first, sought, paths_for, instants_of}
 use Rattle.plan_model.specs.Laid.{PutPaths, path_counts}
+use Rattle.std.specs.Prelude.{Result, Ok, Err}
+use Rattle.refusals.specs.declared.Refusal.{Refusal}
 use Rattle.plan_model.specs.declared.rooms.Paths.{Paths}
-use Rattle.plan_model.specs.declared.rooms.Paths.TheVariants as R
 
 -- At most n paths, where it is no refusal.
 abbrev Fewer : ℕ → Q.Paths → Type 0
@@ -50,15 +51,19 @@ pub times_count : (list : List ℤ) (count : ℕ) → count ≤ length list → 
 unfolding instants_of
 times_count list count long = length-map (take count list) _ ∙ length-take-le count list long
 
+abbrev paths_in : Result Paths Refusal → ℕ
+paths_in (Ok counts) = counts.paths
+paths_in (Err _) = 0
+
 -- So few paths are put.
 pub found_few : (trip : Trip) (os : List Obstacle) (hints : List RankedHint) (budget : ℕ) (times : List TimePoint)
-    {lent left lentActions leftActions : List ℕ} {r : Paths} {found many : ℕ} →
-    PutPaths (paths_for trip os hints budget times) lent left lentActions leftActions r → r ≡ R.Of found many →
+    {lent left lentActions leftActions : List ℕ} {r : Result Paths Refusal} {found many : ℕ} →
+    PutPaths (paths_for trip os hints budget times) lent left lentActions leftActions r → r ≡ Ok (record { paths = found; actions = many }) →
     found ≤ length times
 unfolding path_counts
 found_few trip os hints budget times {found} {many} p e =
     by (paths_for trip os hints budget times) (sym e ∙ p.counts) (paths_fewer trip os hints budget times)
   where
-    by : (a : Q.Paths) → R.Of found many ≡ path_counts a → Fewer (length times) a → found ≤ length times
-    by (Of ps) f h = let same : found ≡ length ps = cc in omega arith
+    by : (a : Q.Paths) → Ok (record { paths = found; actions = many }) ≡ path_counts a → Fewer (length times) a → found ≤ length times
+    by (Of ps) f h = let same : found ≡ length ps = ap paths_in f in omega arith
     by (Refused n) f h = absurd (true≢false (cc f))

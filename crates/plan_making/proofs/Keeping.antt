@@ -28,7 +28,9 @@ use Rattle.one_path.proofs.Known.{actions_in, path_is, path_counts_law, missing_
 use Rattle.one_path.proofs.Short.{path_short}
 use Rattle.plan_model.specs.Plan.{Path, Paths, Of, Refused, first, sought, paths_for, instants_of, path_words, path_rows, all_actions}
 use Rattle.plan_model.specs.Laid.{PutPaths, path_counts}
-use Rattle.plan_model.specs.declared.rooms.Paths.TheVariants as R
+use Rattle.std.specs.Prelude.{Result, Ok, Err}
+use Rattle.refusals.specs.declared.Refusal.{Refusal}
+use Rattle.plan_model.specs.declared.rooms.Paths as Counts
 
 -- ---- Paths behind others.
 
@@ -126,14 +128,14 @@ module _ {trip : Trip} {os : List Obstacle} {hints : List RankedHint} {budget : 
   abbrev arrival : TimePoint
   arrival = time trip os hints budget list i
 
-  pub kept_long : length paths ≡ length lent
+  kept_long : length paths ≡ length lent
   kept_long = ap length k.rows ∙ rows_long lent k.done
 
-  pub kept_long_actions : length actions ≡ length lentActions
+  kept_long_actions : length actions ≡ length lentActions
   kept_long_actions = ap length k.action_rows_law ∙ actions_long lentActions (all_actions k.done)
 
   -- All are worked through.
-  pub kept_end : length list ≤ i → PutPaths whole lent paths lentActions actions (R.Of found row)
+  pub kept_end : length list ≤ i → PutPaths whole lent paths lentActions actions (Ok (record { paths = found; actions = row }))
   unfolding path_counts
   kept_end h =
       let these : whole ≡ Of k.done =
@@ -151,7 +153,7 @@ module _ {trip : Trip} {os : List Obstacle} {hints : List RankedHint} {budget : 
   here = path_for trip os hints budget arrival
 
   -- What the search for the arrival time at i leaves.
-  module _ (h : i < length list) {left : List ℕ} {r : Found} (p : PutPath here actions left row r) where
+  module _ (h : i < length list) {left : List ℕ} {r : Result Found Refusal} (p : PutPath here actions left row r) where
     goes : {s : Sought} → here ≡ s → whole ≡ behind k.done (sought s arrival (λ _. onward))
     goes e =
         k.on ∙
@@ -159,7 +161,7 @@ module _ {trip : Trip} {os : List Obstacle} {hints : List RankedHint} {budget : 
         (at_time trip os hints budget list i h ∙ ap (λ (x : Sought). sought x arrival (λ _. onward)) e)
 
     -- A refusal ends the work (RULES 15.11).
-    pub kept_refused : {n : ℕ} → r ≡ F.Refused n → PutPaths whole lent paths lentActions left (R.Refused n)
+    pub kept_refused : {n : Refusal} → r ≡ Err n → PutPaths whole lent paths lentActions left (Err n)
     unfolding path_counts
     kept_refused {n} e =
         let none : whole ≡ Refused n = goes (refused_is here n (sym p.found ∙ e)) in
@@ -172,7 +174,7 @@ module _ {trip : Trip} {os : List Obstacle} {hints : List RankedHint} {budget : 
         }
 
     -- An arrival time with no path adds none (RULES 13.22).
-    pub kept_missing : {pops : ℕ} → r ≡ F.Missing pops →
+    pub kept_missing : {pops : ℕ} → r ≡ Ok (F.Missing pops) →
         Kept trip os hints budget list lent lentActions (i + 1) found row paths left
     kept_missing {pops} e =
         let none : here ≡ P.Missing pops = missing_is here pops (sym p.found ∙ e) in
@@ -190,7 +192,7 @@ module _ {trip : Trip} {os : List Obstacle} {hints : List RankedHint} {budget : 
         }
 
     -- Where there are at most 64 hints.
-    module _ (few-hints : length hints ≤ 64) {many pops : ℕ} {hold : Duration} (e : r ≡ F.Path many pops hold) where
+    module _ (few-hints : length hints ≤ 64) {many pops : ℕ} {hold : Duration} (e : r ≡ Ok (F.Path many pops hold)) where
       abbrev these : List SafeAction
       these = actions_in here
 

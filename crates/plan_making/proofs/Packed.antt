@@ -5,8 +5,6 @@ use mathlib.Core.Path.{◌≡◌, refl, ap}
 use mathlib.Core.Bool.{Bool}
 use mathlib.Core.List.{List}
 use lib.Ieee.{Float}
-use Rattle.domain.specs.declared.limits.Examined.{Examined}
-use Rattle.domain.specs.declared.limits.Examined.TheVariants.{Fine, Refused}
 use Rattle.shapes.specs.declared.profile.CircularProfile.{CircularProfile}
 use Rattle.shapes.specs.declared.waypoint.Leg.{Leg}
 use Rattle.table.specs.Obstacle.{Obstacle}
@@ -19,18 +17,20 @@ use Rattle.domain.specs.Beside.{is_budget, with_numbers}
 use Rattle.domain.proofs.Fine.{numbers_fine}
 use Rattle.plan_model.specs.Plan.{plan_of}
 use Rattle.plan_model.specs.Asked.{table_plan, asked_plan}
+use Rattle.std.specs.Prelude.{Result, Ok, Err}
+use Rattle.refusals.specs.declared.Refusal.{Refusal}
 
 -- Tables of which the same is found, and which are the same where they are fine, have the same plan.
 same_plan : (laid laid' : Bool) (p : CircularProfile) (agent : Leg) (budget : ℕ) (os os' : List Obstacle) →
-    table_examined laid p agent os ≡ table_examined laid' p agent os' → (table_examined laid p agent os ≡ Fine → os ≡ os') →
+    table_examined laid p agent os ≡ table_examined laid' p agent os' → (table_examined laid p agent os ≡ (Ok tt) → os ≡ os') →
     table_plan laid p agent budget os ≡ table_plan laid' p agent budget os'
 unfolding table_plan
 same_plan laid laid' p agent budget os os' e same = by (with_numbers (is_budget budget) (table_examined laid p agent os)) refl
   where
-    by : (x : Examined) → with_numbers (is_budget budget) (table_examined laid p agent os) ≡ x →
+    by : (x : Result Unit Refusal) → with_numbers (is_budget budget) (table_examined laid p agent os) ≡ x →
         table_plan laid p agent budget os ≡ table_plan laid' p agent budget os'
-    by Fine f = rw (← e, f) (ap (plan_of p agent budget) (same (numbers_fine (is_budget budget) (table_examined laid p agent os) f)))
-    by (Refused n) f = rw (← e, f)
+    by (Ok tt) f = rw (← e, f) (ap (plan_of p agent budget) (same (numbers_fine (is_budget budget) (table_examined laid p agent os) f)))
+    by (Err n) f = rw (← e, f)
 
 pub packed_plan : (p : CircularProfile) (agent : Leg) (budget : ℕ) (lent : Lent) (marks : List ℕ) (places : List Float) (r : Bool) →
     Packs lent marks places r → table_plan r p agent budget (obstacles_in marks places) ≡ asked_plan p agent budget lent

@@ -9,9 +9,7 @@ ghost use Rattle.plan_model.specs.Asked.{table_plan, asked_plan};
 
 use crate::linear_paths;
 use domain::beside;
-use domain::limits::Examined;
 use hints::contour;
-use hints::contour::Scaling;
 use path_tests::trip::Trip;
 use plan_model::rooms;
 use shapes::profile::CircularProfile;
@@ -20,6 +18,7 @@ use table_checks::examine;
 use table_packing::packing;
 
 // The plan among at most 32 obstacles with 256 legs; refused 4 where the agent's line is too short.
+#[tactic(auto, unfolding(plan_model::specs::Plan::long_plan))]
 fn plan_among(
     p: CircularProfile,
     agent: Leg,
@@ -33,10 +32,9 @@ fn plan_among(
     ensures { PlanHanded (long_plan p agent budget (obstacles_in marks.now places.now)) paths.old
         paths.new actions.old actions.new result }
 {
-    let scaling = contour::scale_of(agent);
-    match scaling {
-        Scaling::Refused(n) => rooms::refuse(paths, actions, n),
-        Scaling::By(scale) => {
+    match contour::scale_of(agent) {
+        Err(why) => rooms::refuse(paths, actions, u64::from(why)),
+        Ok(scale) => {
             let trip = Trip {
                 profile: p,
                 leg: agent,
@@ -64,8 +62,8 @@ pub fn plan_table(
     let found = examine::examine(packed, p, agent, marks, places);
     let input = beside::with_numbers(beside::is_budget(budget), found);
     match input {
-        Examined::Refused(n) => rooms::refuse(paths, actions, n),
-        Examined::Fine => {
+        Err(why) => rooms::refuse(paths, actions, u64::from(why)),
+        Ok(()) => {
             if agent.is_brief() {
                 return rooms::move_at_once(agent, paths, actions);
             }

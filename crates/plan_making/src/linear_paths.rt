@@ -1,17 +1,14 @@
 // The whole plan: `compute_safe_linear_paths` of the Rust (docs/RULES.md, 13.1 and 13.4).
-ghost use Rattle.std.specs.Prelude.{◌≡◌, true, List, ℕ, ◌≤◌, length};
+ghost use Rattle.std.specs.Prelude.{◌≡◌, true, List, ℕ, ◌≤◌, length, Ok};
 ghost use Rattle.table.specs.Examined.{is_few};
 ghost use Rattle.table.specs.Table.{obstacles_in};
 ghost use Rattle.hint_list.specs.Words.{hints_in};
 ghost use Rattle.plan_model.specs.Plan as Q;
 ghost use Rattle.plan_model.specs.Plan.{paths_for, instants_of, times_planned, hints_planned};
 ghost use Rattle.plan_model.specs.Laid.{PutPaths, PlanHanded};
-ghost use Rattle.plan_model.specs.declared.rooms.Paths.TheVariants as R;
 
 use arrival_times::listing;
-use arrival_times::listing::Arrivals;
 use hint_list::entries;
-use hint_list::entries::Filled;
 use hints::path_hints;
 use lent::rows;
 use one_path::arrival_path;
@@ -19,6 +16,7 @@ use one_path::arrival_path::Found;
 use path_tests::trip::Trip;
 use plan_model::rooms;
 use plan_model::rooms::Paths;
+use refusals::Refusal;
 use shapes::bounding_box::BoundingBox;
 use times::time::TimePoint;
 
@@ -32,7 +30,7 @@ fn put_paths(
     places: &[f64; 800],
     paths: &mut [u64],
     actions: &mut [u64],
-) -> Paths
+) -> Result<Paths, Refusal>
     requires { length list.now ≤ 289 }
     ensures { PutPaths
         (paths_for trip (obstacles_in marks.now places.now) (hints_in hints.now) budget
@@ -41,53 +39,51 @@ fn put_paths(
 {
     let mut found = 0;
     let mut row = 0;
-    let mut i = 0;
-    while i < list.len() {
-        let arrival = TimePoint(list[i]);
+    for ns in list {
+        let arrival = TimePoint(*ns);
         let path = arrival_path::compute_safe_arrival_path(
             trip, arrival, hints, budget, marks, places, actions, row,
-        );
+        )?;
         match path {
-            Found::Refused(n) => return Paths::Refused(n),
-            Found::Missing(_pops) => {
-                i += 1;
-            }
+            Found::Missing(_) => {}
             Found::Path(many, pops, hold) => {
                 rooms::put_path(paths, 1 + found, arrival, pops, hold, many);
                 found += 1;
                 row += many;
-                i += 1;
             }
         }
     }
-    Paths::Of(found, row)
+    Ok(Paths {
+        paths: found,
+        actions: row,
+    })
 }
 
 // Behind the paths and actions that were put, the row that counts them, and zero after all; or the refusal of one of them.
 fn finish(
-    put: Paths,
+    put: Result<Paths, Refusal>,
     hints: usize,
     times: usize,
     sweeps: usize,
     paths: &mut [u64],
     actions: &mut [u64],
 ) -> u64
-    requires { (found many : ℕ) → put ≡ R.Of found many → found ≤ 289 }
+    requires { (found many : ℕ) → put ≡ Ok (record { paths = found; actions = many }) → found ≤ 289 }
     ensures { (answer : Q.Paths) (room rows : List ℕ) → PutPaths answer room paths.old rows actions.old put →
         PlanHanded (Q.planned hints times sweeps answer) room paths.new rows actions.new result }
 {
     match put {
-        Paths::Refused(n) => rooms::refuse(paths, actions, n),
-        Paths::Of(found, many) => {
+        Err(why) => rooms::refuse(paths, actions, u64::from(why)),
+        Ok(many) => {
             rows::put_row(
                 paths,
                 0,
                 hints as u64,
                 times as u64,
                 sweeps as u64,
-                found as u64,
+                many.paths as u64,
             );
-            rooms::settle(paths, 1 + found, actions, many)
+            rooms::settle(paths, 1 + many.paths, actions, many.actions)
         }
     }
 }
@@ -110,22 +106,21 @@ fn plan_times(
     let leg = trip.leg;
     let profile = trip.profile;
     let mut list = [0i64; 289];
-    let arrivals = listing::compute_safe_arrival_times(profile, leg.end, marks, places, &mut list);
-    match arrivals {
-        Arrivals::Refused(n) => rooms::refuse(paths, actions, n),
-        Arrivals::Listed(count, sweeps) => {
+    match listing::compute_safe_arrival_times(profile, leg.end, marks, places, &mut list) {
+        Err(why) => rooms::refuse(paths, actions, u64::from(why)),
+        Ok(arrivals) => {
             let put = put_paths(
                 trip,
                 hints,
                 budget,
-                &list[..count],
+                &list[..arrivals.listed],
                 marks,
                 places,
                 paths,
                 actions,
             );
             let n = entries::count_of(hints);
-            finish(put, n, count, sweeps, paths, actions)
+            finish(put, n, arrivals.listed, arrivals.sweeps, paths, actions)
         }
     }
 }
@@ -151,7 +146,7 @@ pub(crate) fn compute_safe_linear_paths(
         profile, leg, bounds, marks, places, &mut hints,
     );
     match filled {
-        Filled::Refused(n) => rooms::refuse(paths, actions, n),
-        Filled::Of(_count) => plan_times(trip, &hints, budget, marks, places, paths, actions),
+        Err(why) => rooms::refuse(paths, actions, u64::from(why)),
+        Ok(_count) => plan_times(trip, &hints, budget, marks, places, paths, actions),
     }
 }

@@ -18,9 +18,11 @@ use Rattle.path_actions.specs.declared.action.SafeAction.TheVariants.{Move}
 use Rattle.path_actions.proofs.Rowed.{actions_fours}
 use Rattle.plan_model.specs.Plan.{Path, Of, Planned, planned, short_plan, path_words, path_rows, all_actions, head_rows}
 use Rattle.plan_model.specs.Plan as Q
-use Rattle.plan_model.specs.Laid.{PutPaths, SettledBoth, PlanHanded, path_counts, both_hold, plan_number, plan_room, action_room_of}
+use Rattle.plan_model.specs.Laid.{RefusedBoth, PutPaths, SettledBoth, PlanHanded, path_counts, both_hold, plan_number, plan_room, action_room_of}
+use Rattle.std.specs.Prelude.{Result, Ok, Err}
+use Rattle.refusals.specs.declared.Refusal.{Refusal}
 use Rattle.plan_model.specs.declared.rooms.Paths.{Paths}
-use Rattle.plan_model.specs.declared.rooms.Paths.TheVariants as R
+use Rattle.refusals.specs.Names.{refusal_number}
 
 -- Rows that were put and settled are the plan's.
 pub handed_plan : (hints times sweeps : ℕ) (ps : List Path) {lent room left lentActions actionRoom leftActions : List ℕ} {r : ℕ} →
@@ -85,40 +87,56 @@ handed_short agent put put-action s = handed_plan 0 0 0 _ put put-action s
 
 -- ---- Paths that were put, behind the row that counts them.
 
-module _ (hints times sweeps : ℕ) {answer : Q.Paths} {lent room left lentActions actionRoom leftActions : List ℕ} {found : Paths}
+abbrev paths_in : Result Paths Refusal → ℕ
+paths_in (Ok counts) = counts.paths
+paths_in (Err _) = 0
+
+abbrev actions_in : Result Paths Refusal → ℕ
+actions_in (Ok counts) = counts.actions
+actions_in (Err _) = 0
+
+module _ (hints times sweeps : ℕ) {answer : Q.Paths} {lent room left lentActions actionRoom leftActions : List ℕ} {found : Result Paths Refusal}
     {r : ℕ} (p : PutPaths answer lent room lentActions actionRoom found) where
   -- A refusal keeps nothing of either room.
-  pub paths_refused : {n : ℕ} → found ≡ R.Refused n → PlanHanded (Q.Refused n) room left actionRoom leftActions r →
+  pub paths_refused : {n : Refusal} → found ≡ Err n → PlanHanded (Q.Refused n) room left actionRoom leftActions r →
       PlanHanded (planned hints times sweeps answer) lent left lentActions leftActions r
   unfolding path_counts plan_number plan_room action_room_of
   paths_refused {n} e h = by answer (sym e ∙ p.counts)
     where
-      by : (a : Q.Paths) → R.Refused n ≡ path_counts a →
+      by : (a : Q.Paths) → Err n ≡ path_counts a →
           PlanHanded (planned hints times sweeps a) lent left lentActions leftActions r
       by (Of ps) f = absurd (true≢false (cc f))
       by (Q.Refused m) f =
           let same : n ≡ m = cc in
           record {
-            number = h.number ∙ same;
+            number = h.number ∙ ap refusal_number same;
             room = rw p.long at h.room;
             actions = rw p.long_actions at h.actions;
           }
 
-  pub paths_put : {many more : ℕ} {full : List ℕ} → found ≡ R.Of many more →
+  pub paths_put : {many more : ℕ} {full : List ℕ} → found ≡ Ok (record { paths = many; actions = more }) →
       full ≡ with_row room 0 (hints ∷ (times ∷ (sweeps ∷ (many ∷ [])))) →
       SettledBoth (1 + many) more full left actionRoom leftActions r →
       PlanHanded (planned hints times sweeps answer) lent left lentActions leftActions r
   unfolding path_counts
   paths_put {many} {more} {full} e put s = by answer refl (sym e ∙ p.counts)
     where
-      by : (a : Q.Paths) → answer ≡ a → R.Of many more ≡ path_counts a →
+      by : (a : Q.Paths) → answer ≡ a → Ok (record { paths = many; actions = more }) ≡ path_counts a →
           PlanHanded (planned hints times sweeps a) lent left lentActions leftActions r
       by (Of ps) is f =
-          let counted : many ≡ length ps = cc in
-          let listed : more ≡ length (all_actions ps) = cc in
+          let counted : many ≡ length ps = ap paths_in f in
+          let listed : more ≡ length (all_actions ps) = ap actions_in f in
           let head : List ℕ = hints ∷ (times ∷ (sweeps ∷ (length ps ∷ []))) in
           handed_plan hints times sweeps ps
           (put ∙ rw (p.rows ps is, counted) (head_last lent head (path_rows ps) refl (fours_map path_words (λ q. refl) ps)))
           (p.action_rows_law ps is)
           (rw (← counted, ← listed) s)
       by (Q.Refused m) is f = absurd (true≢false (cc f))
+
+-- ---- Both rooms of a refusal.
+
+-- The rooms that are left to a refusal's number are those of the refused plan.
+pub refused_both : {lent left lentActions leftActions : List ℕ} {number r : ℕ} (why : Refusal) → number ≡ refusal_number why →
+    RefusedBoth number lent left lentActions leftActions r → PlanHanded (Q.Refused why) lent left lentActions leftActions r
+unfolding plan_number plan_room action_room_of
+refused_both why e h = record { number = h.number_law ∙ e; room = h.room; actions = h.action_room }

@@ -14,8 +14,6 @@ use Rattle.hint_ranking.specs.Hints.{Ranked}
 use Rattle.hint_list.specs.declared.hint.RankedHint.{RankedHint}
 use Rattle.hints.specs.Contour.{scale_of, ranked_hints}
 use Rattle.hints.specs.declared.contour.Scale.{Scale}
-use Rattle.hints.specs.declared.contour.Scaling.{Scaling}
-use Rattle.hints.specs.declared.contour.Scaling.TheVariants as L
 use Rattle.arrival_search.specs.Search as A
 use Rattle.arrival_legs.specs.Watched.{arrivals_at}
 use Rattle.path_tests.specs.declared.trip.Trip.{Trip}
@@ -24,6 +22,9 @@ use Rattle.path_actions.specs.declared.action.SafeAction.{SafeAction}
 use Rattle.path_actions.specs.declared.action.SafeAction.TheVariants.{Move}
 use Rattle.one_path.specs.Path as P
 pub use Rattle.one_path.specs.Asked.{trip_of}
+use Rattle.std.specs.Prelude.{Result, Ok, Err}
+use Rattle.refusals.specs.declared.Refusal.{Refusal}
+use Rattle.refusals.specs.declared.Refusal.TheVariants as Refusals
 
 -- A path, the arrival time that it is for, its pops and its hold.
 pub record Path : Type 0 where
@@ -34,7 +35,7 @@ pub record Path : Type 0 where
 
 pub data Paths : Type 0 where
   Of : List Path → Paths
-  Refused : ℕ → Paths
+  Refused : Refusal → Paths
 
 abbrev pub first : Path → Paths → Paths
 first p (Of ps) = Of (p ∷ ps)
@@ -55,23 +56,23 @@ paths_for trip os hints budget (t ∷ ts) =
 -- How many hints, arrival times and sweeps there are, and the paths; or a refusal.
 pub data Plan : Type 0 where
   Planned : ℕ → ℕ → ℕ → List Path → Plan
-  Refused : ℕ → Plan
+  Refused : Refusal → Plan
 
 -- ---- Going on with a part that may be refused.
 
-abbrev pub with_scale : Scaling → (Scale → Plan) → Plan
-with_scale (L.By scale) go = go scale
-with_scale (L.Refused n) go = Refused n
+abbrev pub with_scale : Result Scale Refusal → (Scale → Plan) → Plan
+with_scale (Ok scale) go = go scale
+with_scale (Err n) go = Refused n
 
 abbrev pub hinted : Ranked → (List RankedHint → Plan) → Plan
 hinted (R.Of hints) go = go hints
 hinted (R.Refused n) go = Refused n
 
--- `Unfinished` is never the answer, and 0 is no refusal's number.
+-- `Unfinished` is never the answer (`finished` of arrival_search, proofs/Theorems), so any refusal may stand for it.
 abbrev pub timed : A.Searched → (List TimePoint → ℕ → Plan) → Plan
 timed (A.Answered times sweeps) go = go times sweeps
 timed (A.Refused n) go = Refused n
-timed A.Unfinished go = Refused 0
+timed A.Unfinished go = Refused Refusals.Stuck
 
 abbrev pub planned : ℕ → ℕ → ℕ → Paths → Plan
 planned hints times sweeps (Of ps) = Planned hints times sweeps ps

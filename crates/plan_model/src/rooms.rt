@@ -2,24 +2,26 @@
 ghost use Rattle.std.specs.Prelude.{◌≡◌, ◌∷◌, []};
 ghost use Rattle.number_words.specs.Word.{word_of};
 ghost use Rattle.lent.specs.Rows.{with_row};
-ghost use Rattle.plan_model.specs.Plan.{Refused, short_plan};
-ghost use Rattle.plan_model.specs.Laid.{SettledBoth, PlanHanded};
+ghost use Rattle.plan_model.specs.Plan.{short_plan};
+ghost use Rattle.plan_model.specs.Laid.{RefusedBoth, SettledBoth, PlanHanded};
 
 use lent::{rows, words};
 use number_words::word;
 use path_actions::action;
 use path_actions::action::SafeAction;
+use refusals::Refusal;
 use shapes::waypoint::Leg;
 use times::time::{Duration, TimePoint};
 
-// How many paths and how many actions there are, or a refusal and its number.
-#[derive(Clone, Copy)]
-pub enum Paths {
-    Of(usize, usize),
-    Refused(u64),
+// How many paths and how many actions there are.
+#[derive(Clone, Copy, Debug, PartialEq, Eq)]
+pub struct Paths {
+    pub paths: usize,
+    pub actions: usize,
 }
 
 // Puts the row of a path with so many actions at its place.
+#[tactic(auto, unfolding(lent::specs::Rows::with_row))]
 pub fn put_path(
     out: &mut [u64],
     row: usize,
@@ -35,9 +37,10 @@ pub fn put_path(
     rows::put_row(out, row, time, pops, held, actions as u64);
 }
 
-// Keeps nothing of either room.
+// Keeps nothing of either room, and hands back a refusal's number.
+#[tactic(auto, unfolding(lent::specs::Outcome::number_of, lent::specs::Outcome::room_of))]
 pub fn refuse(paths: &mut [u64], actions: &mut [u64], number: u64) -> u64
-    ensures { PlanHanded (Refused number) paths.old paths.new actions.old actions.new result }
+    ensures { RefusedBoth number paths.old paths.new actions.old actions.new result }
 {
     words::refuse(paths, number);
     words::refuse(actions, number)
@@ -48,10 +51,10 @@ pub fn settle(paths: &mut [u64], heads: usize, actions: &mut [u64], many: usize)
     ensures { SettledBoth heads many paths.old paths.new actions.old actions.new result }
 {
     if !rows::has_room(paths, heads) {
-        return refuse(paths, actions, refusals::NO_ROOM);
+        return refuse(paths, actions, u64::from(Refusal::NoRoom));
     }
     if !rows::has_room(actions, many) {
-        return refuse(paths, actions, refusals::NO_ROOM);
+        return refuse(paths, actions, u64::from(Refusal::NoRoom));
     }
     words::wipe_from(paths, 4 * heads);
     words::wipe_from(actions, 4 * many);

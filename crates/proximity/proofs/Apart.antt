@@ -2,27 +2,23 @@
 -- Assumes nothing.
 use mathlib.Core.Path.{◌≡◌, refl, ◌∙◌}
 use mathlib.Core.Logic.{◌↔◌, inl, inr}
-use mathlib.Core.Bool.{true, false}
-use borrow.Author.Tests.{eqb-false, le-ltb}
+use mathlib.Core.Bool.{true, false, true≢false}
+use borrow.Author.Tests.{le-ltb}
 use lib.Dec.{ltb, leb→le}
 use lib.IntN.{ℤ, pos, negsuc, nat_abs, ◌-ℤ◌, +ℤ_invr}
 use lib.Signed.{◌≤ℤ◌, ◌<ℤ◌, ≤ℤ_refl, clash_ℤ}
 use lib.Ieee.{Float}
 use Rattle.times.specs.Time.{is_exact, span_between}
 use Rattle.times.specs.declared.time.Duration.{Duration}
-use Rattle.times.specs.declared.time.Span.TheVariants as S
 use Rattle.times.proofs.Answers.{span_made}
 use Rattle.times.proofs.Integers.{below→at-most, below_or_at_most, at_most_trans, difference_mono}
-use Rattle.domain.specs.declared.limits.Examined.TheVariants as X
 use Rattle.shapes.specs.declared.waypoint.Leg.{Leg}
 use Rattle.motions.specs.Quadratic.{meeting_from}
 use Rattle.proximity.specs.Range.{range_start, range_end}
 use Rattle.proximity.specs.Proximity.{long_range, proximity_of}
 use Rattle.proximity.specs.Asked.{legs_examined, asked_proximity}
-use Rattle.motions.specs.declared.quadratic.Meeting.{Meeting}
-use Rattle.motions.specs.declared.quadratic.Meeting.TheVariants as M
 use Rattle.proximity.specs.declared.detect.Proximity.{Proximity}
-use Rattle.proximity.specs.declared.detect.Proximity.TheVariants.{Never, Enters, Passes, Refused}
+use Rattle.proximity.specs.declared.detect.Proximity.TheVariants.{Never, Enters, Passes}
 use Rattle.proximity.proofs.Holding.{in_range}
 use Rattle.proximity.proofs.Short.{short_is_under, Long, long_gap}
 use Rattle.proximity.proofs.Moving.{never_strays, Met, both, missed, astray, met}
@@ -30,6 +26,10 @@ use Rattle.proximity.proofs.Origins.{Origin, origin}
 use Rattle.proximity.proofs.Origins.{nothing, at_end, enters, passes, rootless, creeping, apart, lost}
 use Rattle.proximity.proofs.Placed.{Accepted, range_start_time, range_end_time, fine}
 use Rattle.proximity.proofs.Arrivals.{times_given}
+use Rattle.std.specs.Prelude.{Result, Ok, Err}
+use Rattle.refusals.specs.declared.Refusal.{Refusal}
+use Rattle.motions.specs.declared.quadratic.Quadratic.{Quadratic}
+use Rattle.refusals.specs.declared.Refusal.TheVariants as Refusals
 
 -- The range is not short and ends before it begins.
 pub record Apart (agent obstacle : Leg) : Type 0 where
@@ -47,7 +47,7 @@ not_under (pos n) h = le-ltb n 100000 (leb→le 100000 n h.le)
 not_under (negsuc n) h = absurd h.le
 
 pub gap_apart : (agent obstacle : Leg) {d : Duration} →
-    span_between (range_end agent obstacle) (range_start agent obstacle) ≡ S.Of d →
+    span_between (range_end agent obstacle) (range_start agent obstacle) ≡ Ok d →
     pos 100000 ≤ℤ ((range_start agent obstacle).0 -ℤ (range_end agent obstacle).0) → Apart agent obstacle
 gap_apart agent obstacle {d} e h =
     let t0 = range_start agent obstacle in
@@ -66,39 +66,39 @@ gap_apart agent obstacle {d} e h =
 
 -- ---- The refusal.
 
-abbrev SixIsApart : Leg → Leg → Proximity → Type 0
-SixIsApart agent obstacle Never = Unit {0}
-SixIsApart agent obstacle (Enters t) = Unit {0}
-SixIsApart agent obstacle (Passes t u) = Unit {0}
-SixIsApart agent obstacle (Refused n) = n ≡ 6 → Apart agent obstacle
+abbrev SixIsApart : Leg → Leg → Result Proximity Refusal → Type 0
+SixIsApart agent obstacle (Ok Never) = Unit {0}
+SixIsApart agent obstacle (Ok (Enters t)) = Unit {0}
+SixIsApart agent obstacle (Ok (Passes t u)) = Unit {0}
+SixIsApart agent obstacle (Err why) = why ≡ Refusals.Apart → Apart agent obstacle
 
 module _ (limit : Float) (agent obstacle : Leg) where
   told : SixIsApart agent obstacle (proximity_of limit agent obstacle)
   told = by (origin limit agent obstacle)
     where
-      by : {p : Proximity} → Origin limit agent obstacle p → SixIsApart agent obstacle p
+      by : {p : Result Proximity Refusal} → Origin limit agent obstacle p → SixIsApart agent obstacle p
       by nothing = tt
       by (at_end e h k) = tt
       by (enters r) = tt
       by (passes r s) = tt
-      by rootless = λ e. absurd (eqb-false 1 6 refl e)
-      by creeping = λ e. absurd (eqb-false 5 6 refl e)
+      by rootless = λ e. absurd (true≢false cc)
+      by creeping = λ e. absurd (true≢false cc)
       by (apart l h) = λ e. record { long = l; backward = h }
-      by lost = λ e. absurd (eqb-false 7 6 refl e)
+      by lost = λ e. absurd (true≢false cc)
 
-  pub six_is_apart : proximity_of limit agent obstacle ≡ Refused 6 → Apart agent obstacle
+  pub six_is_apart : proximity_of limit agent obstacle ≡ Err Refusals.Apart → Apart agent obstacle
   six_is_apart e = (rw e at told) refl
 
   no_meeting : {d e : Duration} → Apart agent obstacle →
-      span_between agent.start.time agent.end.time ≡ S.Of d →
-      span_between obstacle.start.time obstacle.end.time ≡ S.Of e →
-      meeting_from limit agent obstacle (range_start agent obstacle) ≡ M.Refused 6
+      span_between agent.start.time agent.end.time ≡ Ok d →
+      span_between obstacle.start.time obstacle.end.time ≡ Ok e →
+      meeting_from limit agent obstacle (range_start agent obstacle) ≡ Err Refusals.Apart
   no_meeting a agent_lasts obstacle_lasts =
       let t0 = range_start agent obstacle in
       by (span_made (range_end agent obstacle) t0 a.long.width a.long.given).first (met limit agent obstacle t0)
     where
-      by : {m : Meeting} → is_exact (range_start agent obstacle).0 ≡ true →
-          Met limit agent obstacle (range_start agent obstacle) m → m ≡ M.Refused 6
+      by : {m : Result Quadratic Refusal} → is_exact (range_start agent obstacle).0 ≡ true →
+          Met limit agent obstacle (range_start agent obstacle) m → m ≡ Err Refusals.Apart
       by reach (both m) =
           clash_ℤ a.backward (in_range agent obstacle m.agent_moves.holding m.obstacle_moves.holding).1
       by reach (missed h) = refl
@@ -107,9 +107,9 @@ module _ (limit : Float) (agent obstacle : Leg) where
 
   -- Provided that neither leg lasts more than 2^53 ns, which comes first (RULES 8.10).
   pub apart_is_six : {d e : Duration} → Apart agent obstacle →
-      span_between agent.start.time agent.end.time ≡ S.Of d →
-      span_between obstacle.start.time obstacle.end.time ≡ S.Of e →
-      proximity_of limit agent obstacle ≡ Refused 6
+      span_between agent.start.time agent.end.time ≡ Ok d →
+      span_between obstacle.start.time obstacle.end.time ≡ Ok e →
+      proximity_of limit agent obstacle ≡ Err Refusals.Apart
   unfolding proximity_of long_range
   apart_is_six a agent_lasts obstacle_lasts =
       rw (a.long.given, a.long.not_short, no_meeting a agent_lasts obstacle_lasts)
@@ -117,7 +117,8 @@ module _ (limit : Float) (agent obstacle : Leg) where
 -- ---- Of legs that a call accepts, which never last so long.
 
 pub six_exactly : (limit : Float) {agent obstacle : Leg} → Accepted agent → Accepted obstacle →
-    (proximity_of limit agent obstacle ≡ Refused 6) ↔ (pos 100000 ≤ℤ ((range_start agent obstacle).0 -ℤ (range_end agent obstacle).0))
+    (proximity_of limit agent obstacle ≡ Err Refusals.Apart) ↔
+    (pos 100000 ≤ℤ ((range_start agent obstacle).0 -ℤ (range_end agent obstacle).0))
 six_exactly limit {agent} {obstacle} a b = (
   (λ e. apart_gap agent obstacle (six_is_apart limit agent obstacle e)),
   (λ h.
@@ -127,8 +128,8 @@ six_exactly limit {agent} {obstacle} a b = (
       (times_given obstacle.start.time obstacle.end.time b.start_time b.end_time)),
 )
 
-pub asked_six : (limit : Float) (agent obstacle : Leg) → legs_examined limit agent obstacle ≡ X.Fine →
-    (asked_proximity limit agent obstacle ≡ Refused 6) ↔
+pub asked_six : (limit : Float) (agent obstacle : Leg) → legs_examined limit agent obstacle ≡ Ok tt →
+    (asked_proximity limit agent obstacle ≡ Err Refusals.Apart) ↔
     (pos 100000 ≤ℤ ((range_start agent obstacle).0 -ℤ (range_end agent obstacle).0))
 unfolding asked_proximity
 asked_six limit agent obstacle e =

@@ -11,8 +11,6 @@ use Rattle.floats.proofs.Relations.{◌≼◌}
 use Rattle.floats.specs.Constants.{nought}
 use Rattle.times.specs.Time.{span_between, instant_after, instant_after_seconds, seconds_of}
 use Rattle.times.specs.declared.time.TimePoint.{TimePoint}
-use Rattle.times.specs.declared.time.Instant.TheVariants as I
-use Rattle.times.specs.declared.time.Span.TheVariants as S
 use Rattle.times.proofs.Cut.{nanoseconds_of}
 use Rattle.times.proofs.Answers.{span_made}
 use Rattle.times.proofs.Integers.{at_most_trans, sum_mono, difference_not_below, size_at_most}
@@ -22,11 +20,12 @@ use Rattle.times.proofs.Spans.{span_from, between_given}
 use Rattle.times.proofs.Width.{in_width}
 use Rattle.domain.specs.Domain.{is_time}
 use Rattle.domain.proofs.Within.{time_not_below, time_at_most, time_exact}
+use Rattle.std.specs.Prelude.{Ok}
 
 time_size : (t : TimePoint) → is_time t ≡ true → nat_abs t.0 ≤ 2 ^ 52
 time_size t h = omega (arith, size_at_most t.0 (10 ^ 15) (time_not_below t h) (time_at_most t h))
 
-pub times_given : (t u : TimePoint) → is_time t ≡ true → is_time u ≡ true → span_between t u ≡ S.Of (span_from t u)
+pub times_given : (t u : TimePoint) → is_time t ≡ true → is_time u ≡ true → span_between t u ≡ Ok (span_from t u)
 times_given t u h k =
     between_given t u (time_exact t h) (time_exact u k) (difference_exact u.0 t.0 (time_size u k) (time_size t h))
 
@@ -37,7 +36,7 @@ arrival t s = record { 0 = t.0 +ℤ nanoseconds_of s }
 
 -- It is given, and in the range from t0 to t1.
 pub record Arrives (t0 t1 : TimePoint) (s : Float) : Type 0 where
-  pub given : instant_after_seconds t0 s ≡ I.At (arrival t0 s)
+  pub given : instant_after_seconds t0 s ≡ Ok (arrival t0 s)
   pub not_before : t0.0 ≤ℤ (arrival t0 s).0
   pub not_after : (arrival t0 s).0 ≤ℤ t1.0
 

@@ -8,4 +8,3 @@ pub mod Arrivals
 pub mod Apart
 pub mod Roots
 pub mod OnDomain
-mod Else

@@ -25,15 +25,13 @@ use Rattle.times.proofs.Integers.{sum_mono, difference_not_below}
 use Rattle.times.proofs.Seconds.{seconds_known, seconds_not_below, nanoseconds_mono}
 use Rattle.times.proofs.Spans.{span_from}
 use Rattle.domain.specs.Domain.{is_time, is_limit, is_leg}
-use Rattle.domain.specs.declared.limits.Examined.TheVariants as X
 use Rattle.shapes.specs.declared.waypoint.Leg.{Leg}
 use Rattle.domain.proofs.Within.{time_exact, limit_within}
 use Rattle.proximity.specs.Range.{range_start, range_end, is_short, near_at, or_at_end, short_range}
 use Rattle.proximity.specs.Proximity.{without_motion, passage, by_roots, long_range, proximity_of}
 use Rattle.proximity.specs.Asked.{legs_examined, asked_proximity}
-use Rattle.motions.specs.declared.quadratic.Meeting.{Meeting}
 use Rattle.proximity.specs.declared.detect.Proximity.{Proximity}
-use Rattle.proximity.specs.declared.detect.Proximity.TheVariants.{Never, Enters, Passes, Refused}
+use Rattle.proximity.specs.declared.detect.Proximity.TheVariants.{Never, Enters, Passes}
 use Rattle.proximity.proofs.Holding.{in_range, missed_backward}
 use Rattle.proximity.proofs.Short.{Long}
 use Rattle.proximity.proofs.Moving.{Strays, never_strays, Met, both, missed, astray, met, range_in_order}
@@ -41,27 +39,32 @@ use Rattle.proximity.proofs.Origins.{Near, near, far, untold, near_at_law}
 use Rattle.proximity.proofs.Placed.{Accepted, accepted, range_start_time, range_end_time, fine}
 use Rattle.proximity.proofs.Arrivals.{times_given, arrives}
 use Rattle.proximity.proofs.Roots.{Posed, sound, root_is_given, ordered}
+use Rattle.std.specs.Prelude.{Result, Ok, Err}
+use Rattle.refusals.specs.declared.Refusal.{Refusal}
+use Rattle.motions.specs.declared.quadratic.Quadratic.{Quadratic}
+use Rattle.refusals.specs.declared.Refusal.TheVariants as Refusals
 
 -- The entry and the exit of an answer lie in order from t0 to t1; it is refused by 5, or by 6 where t1 is before t0.
-abbrev pub InRange : TimePoint → TimePoint → Proximity → Type 0
-InRange t0 t1 Never = Unit
-InRange t0 t1 (Enters t) = (t0.0 ≤ℤ t.0) × (t.0 ≤ℤ t1.0)
-InRange t0 t1 (Passes t u) = (t0.0 ≤ℤ t.0) × (t.0 ≤ℤ u.0) × (u.0 ≤ℤ t1.0)
-InRange t0 t1 (Refused n) = (n ≡ 5) ⊎ ((n ≡ 6) × (t1.0 <ℤ t0.0))
+abbrev pub InRange : TimePoint → TimePoint → Result Proximity Refusal → Type 0
+InRange t0 t1 (Ok Never) = Unit
+InRange t0 t1 (Ok (Enters t)) = (t0.0 ≤ℤ t.0) × (t.0 ≤ℤ t1.0)
+InRange t0 t1 (Ok (Passes t u)) = (t0.0 ≤ℤ t.0) × (t.0 ≤ℤ u.0) × (u.0 ≤ℤ t1.0)
+InRange t0 t1 (Err why) = (why ≡ Refusals.Creep) ⊎ ((why ≡ Refusals.Apart) × (t1.0 <ℤ t0.0))
 
 -- ---- Parts of an answer.
 
 -- Whichever way a test goes.
-either_in_range : (t0 t1 : TimePoint) (b : Bool) (x y : Proximity) →
+either_in_range : (t0 t1 : TimePoint) (b : Bool) (x y : Result Proximity Refusal) →
     (b ≡ true → InRange t0 t1 x) → (b ≡ false → InRange t0 t1 y) → InRange t0 t1 (cond b x y)
 either_in_range t0 t1 true x y h k = h refl
 either_in_range t0 t1 false x y h k = k refl
 
-else_in_range : (t0 t1 : TimePoint) (x y : Proximity) → InRange t0 t1 x → InRange t0 t1 y → InRange t0 t1 (or_at_end x y)
-else_in_range t0 t1 Never y h k = k
-else_in_range t0 t1 (Enters t) y h k = h
-else_in_range t0 t1 (Passes t u) y h k = h
-else_in_range t0 t1 (Refused n) y h k = h
+else_in_range : (t0 t1 : TimePoint) (x y : Result Proximity Refusal) → InRange t0 t1 x → InRange t0 t1 y →
+    InRange t0 t1 (or_at_end x y)
+else_in_range t0 t1 (Ok Never) y h k = k
+else_in_range t0 t1 (Ok (Enters t)) y h k = h
+else_in_range t0 t1 (Ok (Passes t u)) y h k = h
+else_in_range t0 t1 (Err why) y h k = h
 
 passage_in_range : (t0 t1 : TimePoint) (first last : Float) →
     is_time t0 ≡ true → is_time t1 ≡ true → t0.0 ≤ℤ t1.0 → first ≼ last →
@@ -90,7 +93,7 @@ module _ {agent obstacle : Leg} (a : Accepted agent) (b : Accepted obstacle) whe
   abbrev t1 : TimePoint
   t1 = range_end agent obstacle
 
-  abbrev In : Proximity → Type 0
+  abbrev In : Result Proximity Refusal → Type 0
   In = InRange t0 t1
 
   start : is_time t0 ≡ true
@@ -108,7 +111,7 @@ module _ {agent obstacle : Leg} (a : Accepted agent) (b : Accepted obstacle) whe
   near_in_range : (limit : Float) (t : TimePoint) → is_time t ≡ true → In (near_at limit agent obstacle t)
   near_in_range limit t h = by (near_at_law limit agent obstacle t)
     where
-      by : {p : Proximity} → Near agent obstacle t p → In p
+      by : {p : Result Proximity Refusal} → Near agent obstacle t p → In p
       by (near h k) = in_range agent obstacle h k
       by far = tt
       by (untold s) = absurd (neither_strays t h s)
@@ -119,8 +122,8 @@ module _ {agent obstacle : Leg} (a : Accepted agent) (b : Accepted obstacle) whe
   unfolding long_range by_roots
   long_in_range {limit} limited long = by (met limit agent obstacle t0)
     where
-      by : {m : Meeting} → Met limit agent obstacle t0 m →
-          In (with_meeting Refused m (λ q. cond (lt q.a hundred_millionth) (without_motion t0 q) (by_roots t0 t1 q)))
+      by : {m : Result Quadratic Refusal} → Met limit agent obstacle t0 m →
+          In (with_meeting Err m (λ q. cond (lt q.a hundred_millionth) (without_motion t0 q) (by_roots t0 t1 q)))
       by (missed h) = inr (refl, missed_backward agent obstacle h)
       by (astray s) = absurd (neither_strays t0 start s)
       by (both {q} m) =
@@ -161,7 +164,7 @@ proximity_in_range limit agent obstacle l a b =
     answer_in_range (accepted agent a) (accepted obstacle b) (limit_within limit l)
 
 -- So of the call, where it found nothing wrong with what it was handed (RULES 5.1).
-pub asked_in_range : (limit : Float) (agent obstacle : Leg) → legs_examined limit agent obstacle ≡ X.Fine →
+pub asked_in_range : (limit : Float) (agent obstacle : Leg) → legs_examined limit agent obstacle ≡ Ok tt →
     InRange (range_start agent obstacle) (range_end agent obstacle) (asked_proximity limit agent obstacle)
 unfolding asked_proximity
 asked_in_range limit agent obstacle e =

@@ -18,53 +18,53 @@ use Rattle.floats.proofs.Larger.{larger_not_below}
 use Rattle.times.specs.Time.{span_between, instant_after_seconds, seconds_of, with_span, with_instant}
 use Rattle.times.specs.declared.time.TimePoint.{TimePoint}
 use Rattle.times.specs.declared.time.Duration.{Duration}
-use Rattle.times.specs.declared.time.Span.{Span}
-use Rattle.times.specs.declared.time.Span.TheVariants as S
-use Rattle.times.specs.declared.time.Instant.{Instant}
-use Rattle.times.specs.declared.time.Instant.TheVariants as I
 use Rattle.times.proofs.Answers.{span_made}
 use Rattle.times.proofs.Spans.{Since, since_itself, since_after}
 use Rattle.root.specs.Root.{root_of, with_root}
-use Rattle.root.specs.declared.nearest.Root.{Root}
-use Rattle.root.specs.declared.nearest.Root.TheVariants as R
 use Rattle.shapes.specs.Leg.{holds}
 use Rattle.shapes.specs.declared.waypoint.Leg.{Leg}
 use Rattle.motions.specs.Quadratic.{meeting_from, with_meeting}
 use Rattle.proximity.specs.Range.{range_start, range_end, is_short, is_near, near_by, near_at, or_at_end, short_range}
 use Rattle.proximity.specs.Proximity.{without_motion, passage, by_roots, long_range, proximity_of}
-use Rattle.motions.specs.declared.motion.Motion.{Motion}
 use Rattle.motions.specs.declared.quadratic.Quadratic.{Quadratic}
-use Rattle.motions.specs.declared.quadratic.Meeting.{Meeting}
-use Rattle.motions.specs.declared.quadratic.Meeting.TheVariants as M
 use Rattle.proximity.specs.declared.detect.Proximity.{Proximity}
-use Rattle.proximity.specs.declared.detect.Proximity.TheVariants.{Never, Enters, Passes, Refused}
+use Rattle.proximity.specs.declared.detect.Proximity.TheVariants.{Never, Enters, Passes}
 use Rattle.proximity.proofs.Holding.{missed_backward}
 use Rattle.proximity.proofs.Short.{Long}
-use Rattle.proximity.proofs.Moving.{Strays, Motioned, there, outside, strayed, motion, Met, both, missed, astray, met}
+use Rattle.proximity.proofs.Moving.{Strays, Motioned, there, outside, adrift, motion, Met, both, missed, astray, met}
+use Rattle.std.specs.Prelude.{Result, Ok, Err}
+use Rattle.times.specs.declared.time.Strayed.{Strayed}
+use Rattle.root.specs.declared.nearest.NoRoot.{NoRoot}
+use Rattle.std.specs.Prelude.{Option}
+use Rattle.motions.specs.declared.motion.State.{State}
+use Rattle.refusals.specs.declared.Refusal.{Refusal}
+use Rattle.refusals.specs.declared.Refusal.TheVariants as Refusals
 
 -- ---- Whether two legs are near at an instant (RULES 8.7).
 
-pub data Near (agent obstacle : Leg) (t : TimePoint) : Proximity → Type 0 where
-  near : holds agent t ≡ true → holds obstacle t ≡ true → Near agent obstacle t (Enters t)
-  far : Near agent obstacle t Never
-  untold : Strays agent t ⊎ Strays obstacle t → Near agent obstacle t (Refused 7)
+pub data Near (agent obstacle : Leg) (t : TimePoint) : Result Proximity Refusal → Type 0 where
+  near : holds agent t ≡ true → holds obstacle t ≡ true → Near agent obstacle t (Ok (Enters t))
+  far : Near agent obstacle t (Ok Never)
+  untold : Strays agent t ⊎ Strays obstacle t → Near agent obstacle t (Err Refusals.Strayed)
 
 pub near_at_law : (limit : Float) (agent obstacle : Leg) (t : TimePoint) → Near agent obstacle t (near_at limit agent obstacle t)
 unfolding near_at
 near_at_law limit agent obstacle t = by (motion agent t) (motion obstacle t)
   where
-    if_near : (b : Bool) → holds agent t ≡ true → holds obstacle t ≡ true → Near agent obstacle t (cond b (Enters t) Never)
+    if_near : (b : Bool) → holds agent t ≡ true → holds obstacle t ≡ true →
+        Near agent obstacle t (cond b (Ok (Enters t)) (Ok Never))
     if_near true h k = near h k
     if_near false h k = far
 
-    by : {m n : Motion} → Motioned agent t m → Motioned obstacle t n → Near agent obstacle t (near_by limit m n t)
+    by : {m n : Result (Option State) Strayed} → Motioned agent t m → Motioned obstacle t n →
+        Near agent obstacle t (near_by limit m n t)
     by (there {s = p} h) (there {s = q} k) = if_near (is_near limit p.place q.place) h.holding k.holding
     by (there h) (outside k) = far
-    by (there h) (strayed k) = untold (inr k)
+    by (there h) (adrift k) = untold (inr k)
     by (outside h) (there k) = far
     by (outside h) (outside k) = far
-    by (outside h) (strayed k) = untold (inr k)
-    by (strayed h) n = untold (inl h)
+    by (outside h) (adrift k) = untold (inr k)
+    by (adrift h) n = untold (inl h)
 
 -- ---- The answer.
 
@@ -72,21 +72,21 @@ near_at_law limit agent obstacle t = by (motion agent t) (motion obstacle t)
 pub record Reached (limit : Float) (agent obstacle : Leg) (t : TimePoint) : Type 0 where
   pub long : Long agent obstacle
   pub quadratic : Quadratic
-  pub meets : meeting_from limit agent obstacle (range_start agent obstacle) ≡ M.Of quadratic
+  pub meets : meeting_from limit agent obstacle (range_start agent obstacle) ≡ Ok quadratic
   pub since : Since (range_start agent obstacle) t
 
-pub data Origin (limit : Float) (agent obstacle : Leg) : Proximity → Type 0 where
-  nothing : Origin limit agent obstacle Never
+pub data Origin (limit : Float) (agent obstacle : Leg) : Result Proximity Refusal → Type 0 where
+  nothing : Origin limit agent obstacle (Ok Never)
   at_end : {t : TimePoint} → (t ≡ range_start agent obstacle) ⊎ (t ≡ range_end agent obstacle) →
-      holds agent t ≡ true → holds obstacle t ≡ true → Origin limit agent obstacle (Enters t)
-  enters : {t : TimePoint} → Reached limit agent obstacle t → Origin limit agent obstacle (Enters t)
+      holds agent t ≡ true → holds obstacle t ≡ true → Origin limit agent obstacle (Ok (Enters t))
+  enters : {t : TimePoint} → Reached limit agent obstacle t → Origin limit agent obstacle (Ok (Enters t))
   passes : {t u : TimePoint} → Reached limit agent obstacle t → Reached limit agent obstacle u →
-      Origin limit agent obstacle (Passes t u)
-  rootless : Origin limit agent obstacle (Refused 1)
-  creeping : Origin limit agent obstacle (Refused 5)
+      Origin limit agent obstacle (Ok (Passes t u))
+  rootless : Origin limit agent obstacle (Err Refusals.Number)
+  creeping : Origin limit agent obstacle (Err Refusals.Creep)
   apart : Long agent obstacle → (range_end agent obstacle).0 <ℤ (range_start agent obstacle).0 →
-      Origin limit agent obstacle (Refused 6)
-  lost : Origin limit agent obstacle (Refused 7)
+      Origin limit agent obstacle (Err Refusals.Apart)
+  lost : Origin limit agent obstacle (Err Refusals.Strayed)
 
 exit_not_below : (x w : Float) → Ieee.lt x nought ≡ false → Ieee.le x w ≡ true → nought ≼ x
 exit_not_below x w e f = not-lt→le x nought (left_known x w (passed f)) (unfold is_nan in tt) (failed e)
@@ -98,7 +98,7 @@ module _ (limit : Float) (agent obstacle : Leg) where
   abbrev t1 : TimePoint
   t1 = range_end agent obstacle
 
-  abbrev From : Proximity → Type 0
+  abbrev From : Result Proximity Refusal → Type 0
   From = Origin limit agent obstacle
 
   -- Where the range is not short and has its quadratic, an instant given from its start on is reached.
@@ -111,16 +111,17 @@ module _ (limit : Float) (agent obstacle : Leg) where
       by (Ieee.lt last nought) (Ieee.lt w first) (instant_after_seconds t0 (larger_of nought first)) (Ieee.le last w)
       (instant_after_seconds t0 last) refl refl refl refl
     where
-      by : (a b : Bool) (x : Instant) (c : Bool) (y : Instant) →
+      by : (a b : Bool) (x : Result TimePoint Strayed) (c : Bool) (y : Result TimePoint Strayed) →
           Ieee.lt last nought ≡ a → instant_after_seconds t0 (larger_of nought first) ≡ x →
           Ieee.le last w ≡ c → instant_after_seconds t0 last ≡ y →
-          From (cond a Never (cond b Never (with_instant (Refused 7) x (λ t. cond c (with_instant (Refused 7) y (λ u. Passes t u)) (Enters t)))))
+          From (cond a (Ok Never) (cond b (Ok Never) (with_instant (Err Refusals.Strayed) x (λ t.
+          cond c (with_instant (Err Refusals.Strayed) y (λ u. Ok (Passes t u))) (Ok (Enters t))))))
       by true b x c y f g h k = nothing
       by false true x c y f g h k = nothing
-      by false false I.Strayed c y f g h k = lost
-      by false false (I.At t) false y f g h k = enters (reached t (since_after _ g (larger_not_below first)))
-      by false false (I.At t) true I.Strayed f g h k = lost
-      by false false (I.At t) true (I.At u) f g h k =
+      by false false (Err _) c y f g h k = lost
+      by false false (Ok t) false y f g h k = enters (reached t (since_after _ g (larger_not_below first)))
+      by false false (Ok t) true (Err _) f g h k = lost
+      by false false (Ok t) true (Ok u) f g h k =
           passes (reached t (since_after _ g (larger_not_below first))) (reached u (since_after _ k (exit_not_below last w f h)))
 
   of_crossing : Leads → (q : Quadratic) → From (by_roots t0 t1 q)
@@ -128,19 +129,19 @@ module _ (limit : Float) (agent obstacle : Leg) where
   of_crossing reached q =
       let r = radicand q.a q.b q.c in by (Ieee.lt r nought) (root_of r) (span_between t0 t1)
     where
-      by : (b : Bool) (x : Root) (y : Span) →
-          From (cond b Never (with_root (Refused 1) x (λ s. with_span (Refused 7) y (λ w.
+      by : (b : Bool) (x : Result Float NoRoot) (y : Result Duration Strayed) →
+          From (cond b (Ok Never) (with_root (Err Refusals.Number) x (λ s. with_span (Err Refusals.Strayed) y (λ w.
           passage t0 (seconds_of w.0) (lower q.a q.b s) (upper q.a q.b s)))))
       by true x y = nothing
-      by false R.Refused y = rootless
-      by false (R.Of s) S.Strayed = lost
-      by false (R.Of s) (S.Of w) = of_passage reached (seconds_of w.0) (lower q.a q.b s) (upper q.a q.b s)
+      by false (Err _) y = rootless
+      by false (Ok s) (Err _) = lost
+      by false (Ok s) (Ok w) = of_passage reached (seconds_of w.0) (lower q.a q.b s) (upper q.a q.b s)
 
   of_long : Long agent obstacle → From (long_range limit agent obstacle t0 t1)
   unfolding long_range
   of_long long = by refl (met limit agent obstacle t0)
     where
-      stood : (a b : Bool) → Leads → From (cond a (cond b (Enters t0) Never) (Refused 5))
+      stood : (a b : Bool) → Leads → From (cond a (cond b (Ok (Enters t0)) (Ok Never)) (Err Refusals.Creep))
       stood true true reached = enters (reached t0 (since_itself t0 (span_made t1 t0 long.width long.given).first))
       stood true false reached = nothing
       stood false b reached = creeping
@@ -149,8 +150,8 @@ module _ (limit : Float) (agent obstacle : Leg) where
       moved true q reached = stood (Ieee.lt (size_of q.b) ten_thousandth) (Ieee.le q.c nought) reached
       moved false q reached = of_crossing reached q
 
-      by : {m : Meeting} → meeting_from limit agent obstacle t0 ≡ m → Met limit agent obstacle t0 m →
-          From (with_meeting Refused m (λ q. cond (Ieee.lt q.a hundred_millionth) (without_motion t0 q) (by_roots t0 t1 q)))
+      by : {m : Result Quadratic Refusal} → meeting_from limit agent obstacle t0 ≡ m → Met limit agent obstacle t0 m →
+          From (with_meeting Err m (λ q. cond (Ieee.lt q.a hundred_millionth) (without_motion t0 q) (by_roots t0 t1 q)))
       by e (both {q} m) =
           moved (Ieee.lt q.a hundred_millionth) q (λ t since. record { long = long; quadratic = q; meets = e; since = since })
       by e (missed h) = apart long (missed_backward agent obstacle h)
@@ -160,7 +161,7 @@ module _ (limit : Float) (agent obstacle : Leg) where
   unfolding short_range
   of_short = by (near_at_law limit agent obstacle t0) (near_at_law limit agent obstacle t1)
     where
-      by : {p q : Proximity} → Near agent obstacle t0 p → Near agent obstacle t1 q → From (or_at_end p q)
+      by : {p q : Result Proximity Refusal} → Near agent obstacle t0 p → Near agent obstacle t1 q → From (or_at_end p q)
       by (near h k) n = at_end (inl refl) h k
       by far (near h k) = at_end (inr refl) h k
       by far far = nothing
@@ -171,12 +172,12 @@ module _ (limit : Float) (agent obstacle : Leg) where
   unfolding proximity_of
   origin = by (span_between t1 t0) refl
     where
-      ranged : (d : Duration) (b : Bool) → span_between t1 t0 ≡ S.Of d → is_short d ≡ b →
+      ranged : (d : Duration) (b : Bool) → span_between t1 t0 ≡ Ok d → is_short d ≡ b →
           From (cond b (short_range limit agent obstacle t0 t1) (long_range limit agent obstacle t0 t1))
       ranged d true e h = of_short
       ranged d false e h = of_long (record { width = d; given = e; not_short = h })
 
-      by : (x : Span) → span_between t1 t0 ≡ x → From (with_span (Refused 7) x (λ d.
+      by : (x : Result Duration Strayed) → span_between t1 t0 ≡ x → From (with_span (Err Refusals.Strayed) x (λ d.
           cond (is_short d) (short_range limit agent obstacle t0 t1) (long_range limit agent obstacle t0 t1)))
-      by (S.Of d) e = ranged d (is_short d) e refl
-      by S.Strayed e = lost
+      by (Ok d) e = ranged d (is_short d) e refl
+      by (Err _) e = lost

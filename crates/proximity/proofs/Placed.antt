@@ -10,12 +10,13 @@ use Rattle.times.proofs.Exact.{both}
 use Rattle.times.proofs.Order.{chosen_has}
 use Rattle.shapes.specs.Leg.{is_backward, is_rising}
 use Rattle.domain.specs.Domain.{is_time, is_limit, is_leg}
-use Rattle.domain.specs.declared.limits.Examined.TheVariants as X
 use Rattle.shapes.specs.declared.waypoint.Leg.{Leg}
 use Rattle.domain.proofs.Within as L
 use Rattle.proximity.specs.Range.{range_start, range_end}
 use Rattle.proximity.specs.Asked.{legs_examined}
 use Rattle.proximity.proofs.Holding.{starts, ends}
+use Rattle.std.specs.Prelude.{Ok, Err}
+use Rattle.refusals.specs.declared.Refusal.TheVariants as Refusals
 
 -- Both ends of the leg lie within 10^6 m. The limit beside it is `Within widest`, 10^6 too (RULES 3.4).
 pub record Placed (leg : Leg) : Type 0 where
@@ -58,12 +59,14 @@ pub record Fine (limit : Float) (agent obstacle : Leg) : Type 0 where
   pub agent_accepted : Accepted agent
   pub obstacle_accepted : Accepted obstacle
 
-pub fine : (limit : Float) (agent obstacle : Leg) → legs_examined limit agent obstacle ≡ X.Fine → Fine limit agent obstacle
+pub fine : (limit : Float) (agent obstacle : Leg) → legs_examined limit agent obstacle ≡ Ok tt → Fine limit agent obstacle
 unfolding legs_examined
 fine limit agent obstacle e = by (is_rising obstacle) (is_leg agent && (is_limit limit && is_leg obstacle)) refl e
   where
     by : (rising good : Bool) → (is_leg agent && (is_limit limit && is_leg obstacle)) ≡ good →
-        cond rising (cond good (cond (is_backward agent) (X.Refused 3) X.Fine) (X.Refused 1)) (X.Refused 2) ≡ X.Fine →
+        cond rising
+        (cond good (cond (is_backward agent) (Err Refusals.Backward) (Ok (tt {0}))) (Err Refusals.Number))
+        (Err Refusals.Shape) ≡ Ok (tt {0}) →
         Fine limit agent obstacle
     by true true p e =
         let first = both (is_leg agent) (is_limit limit && is_leg obstacle) p in

@@ -19,11 +19,9 @@ use Rattle.floats.proofs.Meeting as F
 use Rattle.times.specs.Time.{span_between, seconds_of}
 use Rattle.times.specs.declared.time.TimePoint.{TimePoint}
 use Rattle.times.specs.declared.time.Duration.{Duration}
-use Rattle.times.specs.declared.time.Span.TheVariants as S
 use Rattle.times.proofs.Answers.{span_made}
 use Rattle.times.proofs.Seconds.{seconds_finite, seconds_within_power}
 use Rattle.root.specs.Root.{IsRoot, root_of}
-use Rattle.root.specs.declared.nearest.Root.TheVariants as R
 use Rattle.root.proofs.Given.{root_given}
 use Rattle.root.proofs.Meets as N
 use Rattle.root.proofs.Size.{root_fine}
@@ -35,6 +33,7 @@ use Rattle.proximity.proofs.Holding.{starts, ends}
 use Rattle.proximity.proofs.Short.{wide_seconds, Long, long_around}
 use Rattle.proximity.proofs.Moving.{Moves, Meets, range_in_order}
 use Rattle.proximity.proofs.Placed.{Placed}
+use Rattle.std.specs.Prelude.{Ok}
 
 -- The quadratic q of two placed legs whose range is not short, from the range's start.
 pub record Posed (limit : Float) (agent obstacle : Leg) (q : Quadratic) : Type 0 where
@@ -50,7 +49,7 @@ pub record Posed (limit : Float) (agent obstacle : Leg) (q : Quadratic) : Type 0
 lasts_long : {agent obstacle : Leg} {d : Duration} (leg : Leg) → Long agent obstacle →
     (range_start agent obstacle).0 ≤ℤ (range_end agent obstacle).0 →
     leg.start.time.0 ≤ℤ (range_start agent obstacle).0 → (range_end agent obstacle).0 ≤ℤ leg.end.time.0 →
-    span_between leg.start.time leg.end.time ≡ S.Of d → ten_thousandth ≼ seconds_of d.0
+    span_between leg.start.time leg.end.time ≡ Ok d → ten_thousandth ≼ seconds_of d.0
 lasts_long {d = d} leg long ordered h k lasting =
     wide_seconds d.0
     (rw (span_made leg.start.time leg.end.time d lasting).number at
@@ -58,12 +57,12 @@ lasts_long {d = d} leg long ordered h k lasting =
 
 module _ {limit : Float} {agent obstacle : Leg} {q : Quadratic} (p : Posed limit agent obstacle q) where
   pub agent_lasts : {d : Duration} →
-      span_between agent.start.time agent.end.time ≡ S.Of d → ten_thousandth ≼ seconds_of d.0
+      span_between agent.start.time agent.end.time ≡ Ok d → ten_thousandth ≼ seconds_of d.0
   agent_lasts =
       lasts_long agent p.long (range_in_order p.meeting) (starts agent obstacle).first (ends agent obstacle).first
 
   pub obstacle_lasts : {d : Duration} →
-      span_between obstacle.start.time obstacle.end.time ≡ S.Of d → ten_thousandth ≼ seconds_of d.0
+      span_between obstacle.start.time obstacle.end.time ≡ Ok d → ten_thousandth ≼ seconds_of d.0
   obstacle_lasts =
       lasts_long obstacle p.long (range_in_order p.meeting) (starts agent obstacle).second (ends agent obstacle).second
 
@@ -122,18 +121,18 @@ radicand_finite h = F.radicand_finite h.a_within h.b_within h.c_within
 
 -- A radicand that is not below 0 has a root: refusal 1 is not met.
 pub root_is_given : {q : Quadratic} → Sound q → let r = radicand q.a q.b q.c in
-    lt r nought ≡ false → (s : Float) × (root_of r ≡ R.Of s)
+    lt r nought ≡ false → (s : Float) × (root_of r ≡ Ok s)
 root_is_given {q} h e =
     let r = radicand q.a q.b q.c in
     root_given r (radicand_finite h) (not-lt→le r nought (finite_known r (radicand_finite h)) (unfold is_nan in tt) (failed e))
 
 -- A root of a radicand is 0 or more.
-pub root_not_below : {s : Float} (a b c : Float) → root_of (radicand a b c) ≡ R.Of s → nought ≼ s
+pub root_not_below : {s : Float} (a b c : Float) → root_of (radicand a b c) ≡ Ok s → nought ≼ s
 root_not_below {s} a b c e =
     let r = radicand a b c in
     let fits = sub-fits binary64 (mul binary64 b b) (mul binary64 (mul binary64 four a) c) in
     (root_fine r s (subst (IsRoot r) e (N.meets r fits))).not_below
 
 pub ordered : {q : Quadratic} {s : Float} → Sound q → lt q.a hundred_millionth ≡ false →
-    root_of (radicand q.a q.b q.c) ≡ R.Of s → le (lower q.a q.b s) (upper q.a q.b s) ≡ true
+    root_of (radicand q.a q.b q.c) ≡ Ok s → le (lower q.a q.b s) (upper q.a q.b s) ≡ true
 ordered {q} {s} h e f = F.roots_in_order s h.a_within h.b_within e (root_not_below q.a q.b q.c f)

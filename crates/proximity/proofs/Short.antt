@@ -18,13 +18,13 @@ use Rattle.floats.proofs.Preorder.{le_trans}
 use Rattle.floats.proofs.Strict.{le_lt_trans, le→not-lt}
 use Rattle.times.specs.Time.{span_between, seconds_of}
 use Rattle.times.specs.declared.time.Duration.{Duration}
-use Rattle.times.specs.declared.time.Span.TheVariants as S
 use Rattle.times.proofs.Answers.{span_made}
 use Rattle.times.proofs.Integers.{at_most_trans, difference_mono, difference_not_below}
 use Rattle.times.proofs.Exact.{size_turned}
 use Rattle.times.proofs.Seconds.{seconds_mono, seconds_size}
 use Rattle.shapes.specs.declared.waypoint.Leg.{Leg}
 use Rattle.proximity.specs.Range.{range_start, range_end, is_short}
+use Rattle.std.specs.Prelude.{Ok}
 
 -- ---- In seconds: those of 99,999 ns are below 1e-4, and those of 100,000 ns are not.
 
@@ -54,7 +54,7 @@ short_is_under d = rw (seconds_size d.0) (short (nat_abs d.0) (ltb (nat_abs d.0)
 
 pub record Long (agent obstacle : Leg) : Type 0 where
   pub width : Duration
-  pub given : span_between (range_end agent obstacle) (range_start agent obstacle) ≡ S.Of width
+  pub given : span_between (range_end agent obstacle) (range_start agent obstacle) ≡ Ok width
   pub not_short : is_short width ≡ false
 
 not_under : (z : ℤ) → pos 0 ≤ℤ z → ltb (nat_abs z) 100000 ≡ false → pos 100000 ≤ℤ z

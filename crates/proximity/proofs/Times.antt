@@ -3,7 +3,7 @@
 -- Assumes nothing.
 use mathlib.Core.Path.{◌≡◌}
 use mathlib.Core.Bool.{true, true≢false}
-use Prim.Native.Nat.{ℕ, ◌<◌}
+use Prim.Native.Nat.{◌<◌}
 use lib.Dec.{lit<}
 use lib.Signed.{◌≤ℤ◌}
 use lib.Ieee.{Float}
@@ -14,26 +14,30 @@ use Rattle.shapes.specs.declared.waypoint.Leg.{Leg}
 use Rattle.proximity.specs.Range.{range_start}
 use Rattle.proximity.specs.Proximity.{proximity_of, entry_of}
 use Rattle.proximity.specs.declared.detect.Proximity.{Proximity}
-use Rattle.proximity.specs.declared.detect.Proximity.TheVariants.{Never, Enters, Passes, Refused}
-use Rattle.proximity.specs.declared.detect.Entry.TheVariants as E
+use Rattle.proximity.specs.declared.detect.Proximity.TheVariants.{Never, Enters, Passes}
 use Rattle.proximity.proofs.Holding.{starts, in_range, end_not_inside}
 use Rattle.proximity.proofs.Short.{Long}
 use Rattle.proximity.proofs.Origins.{Reached, Origin, origin}
 use Rattle.proximity.proofs.Origins.{nothing, at_end, enters, passes, rootless, creeping, apart, lost}
+use Rattle.std.specs.Prelude.{Result, Ok, Err}
+use Rattle.refusals.specs.declared.Refusal.{Refusal}
+use Rattle.std.specs.Prelude.{Some}
+use Rattle.refusals.specs.declared.Refusal.TheVariants as Refusals
+use Rattle.refusals.specs.Names.{refusal_number}
 
 -- ---- Instants.
 
-abbrev pub NotBefore : TimePoint → Proximity → Type 0
-NotBefore t0 Never = Unit {0}
-NotBefore t0 (Enters t) = t0.0 ≤ℤ t.0
-NotBefore t0 (Passes t u) = (t0.0 ≤ℤ t.0) × (t0.0 ≤ℤ u.0)
-NotBefore t0 (Refused n) = Unit {0}
+abbrev pub NotBefore : TimePoint → Result Proximity Refusal → Type 0
+NotBefore t0 (Ok Never) = Unit {0}
+NotBefore t0 (Ok (Enters t)) = t0.0 ≤ℤ t.0
+NotBefore t0 (Ok (Passes t u)) = (t0.0 ≤ℤ t.0) × (t0.0 ≤ℤ u.0)
+NotBefore t0 (Err why) = Unit {0}
 
 pub not_before : (limit : Float) (agent obstacle : Leg) →
     NotBefore (range_start agent obstacle) (proximity_of limit agent obstacle)
 not_before limit agent obstacle = by (origin limit agent obstacle)
   where
-    by : {p : Proximity} → Origin limit agent obstacle p → NotBefore (range_start agent obstacle) p
+    by : {p : Result Proximity Refusal} → Origin limit agent obstacle p → NotBefore (range_start agent obstacle) p
     by nothing = tt
     by (at_end e h k) = (in_range agent obstacle h k).0
     by (enters r) = r.since.not_before
@@ -43,11 +47,11 @@ not_before limit agent obstacle = by (origin limit agent obstacle)
     by (apart l h) = tt
     by lost = tt
 
-earlier_still : {t u : TimePoint} → t.0 ≤ℤ u.0 → (p : Proximity) → NotBefore u p → NotBefore t p
-earlier_still h Never k = tt
-earlier_still h (Enters v) k = at_most_trans _ _ _ h k
-earlier_still h (Passes v w) k = (at_most_trans _ _ _ h k.0, at_most_trans _ _ _ h k.1)
-earlier_still h (Refused n) k = tt
+earlier_still : {t u : TimePoint} → t.0 ≤ℤ u.0 → (p : Result Proximity Refusal) → NotBefore u p → NotBefore t p
+earlier_still h (Ok Never) k = tt
+earlier_still h (Ok (Enters v)) k = at_most_trans _ _ _ h k
+earlier_still h (Ok (Passes v w)) k = (at_most_trans _ _ _ h k.0, at_most_trans _ _ _ h k.1)
+earlier_still h (Err why) k = tt
 
 -- So neither leg has yet to start.
 pub after_both_starts : (limit : Float) (agent obstacle : Leg) →
@@ -63,28 +67,28 @@ after_both_starts limit agent obstacle =
 
 -- A radicand that has no root, creep, a range that ends before it begins, and a span or an instant past 2^53 ns (RULES 4.1, 4.5
 -- to 4.7).
-pub data Early : ℕ → Type 0 where
-  by_root : Early 1
-  by_creep : Early 5
-  by_gap : Early 6
-  by_reach : Early 7
+pub data Early : Refusal → Type 0 where
+  by_root : Early Refusals.Number
+  by_creep : Early Refusals.Creep
+  by_gap : Early Refusals.Apart
+  by_reach : Early Refusals.Strayed
 
-pub early_below : {n : ℕ} → Early n → n < 8
+pub early_below : {why : Refusal} → Early why → refusal_number why < 8
 early_below by_root = lit< tt
 early_below by_creep = lit< tt
 early_below by_gap = lit< tt
 early_below by_reach = lit< tt
 
-abbrev RefusesEarly : Proximity → Type 0
-RefusesEarly Never = Unit {0}
-RefusesEarly (Enters t) = Unit {0}
-RefusesEarly (Passes t u) = Unit {0}
-RefusesEarly (Refused n) = Early n
+abbrev RefusesEarly : Result Proximity Refusal → Type 0
+RefusesEarly (Ok Never) = Unit {0}
+RefusesEarly (Ok (Enters t)) = Unit {0}
+RefusesEarly (Ok (Passes t u)) = Unit {0}
+RefusesEarly (Err why) = Early why
 
 refusals : (limit : Float) (agent obstacle : Leg) → RefusesEarly (proximity_of limit agent obstacle)
 refusals limit agent obstacle = by (origin limit agent obstacle)
   where
-    by : {p : Proximity} → Origin limit agent obstacle p → RefusesEarly p
+    by : {p : Result Proximity Refusal} → Origin limit agent obstacle p → RefusesEarly p
     by nothing = tt
     by (at_end e h k) = tt
     by (enters r) = tt
@@ -94,17 +98,17 @@ refusals limit agent obstacle = by (origin limit agent obstacle)
     by (apart l h) = by_gap
     by lost = by_reach
 
-pub refuses_early : (limit : Float) (agent obstacle : Leg) {n : ℕ} → proximity_of limit agent obstacle ≡ Refused n → Early n
+pub refuses_early : (limit : Float) (agent obstacle : Leg) {why : Refusal} → proximity_of limit agent obstacle ≡ Err why → Early why
 refuses_early limit agent obstacle e = rw e at (refusals limit agent obstacle)
 
 -- ---- An entry strictly inside.
 
 pub inside_reached : (limit : Float) (agent obstacle : Leg) {t : TimePoint} →
-    entry_of (proximity_of limit agent obstacle) ≡ E.At t → is_inside agent t ≡ true → is_inside obstacle t ≡ true →
+    entry_of (proximity_of limit agent obstacle) ≡ Some t → is_inside agent t ≡ true → is_inside obstacle t ≡ true →
     Reached limit agent obstacle t
 inside_reached limit agent obstacle {t} e h k = by (origin limit agent obstacle) e
   where
-    by : {p : Proximity} → Origin limit agent obstacle p → entry_of p ≡ E.At t → Reached limit agent obstacle t
+    by : {p : Result Proximity Refusal} → Origin limit agent obstacle p → entry_of p ≡ Some t → Reached limit agent obstacle t
     by nothing f = absurd (true≢false cc)
     by (at_end {t = u} g a b) f =
         let same : u ≡ t = cc in absurd (true≢false (rw (same, h, k) at (end_not_inside agent obstacle g)))
@@ -116,6 +120,6 @@ inside_reached limit agent obstacle {t} e h k = by (origin limit agent obstacle)
     by lost f = absurd (true≢false cc)
 
 pub inside_is_long : (limit : Float) (agent obstacle : Leg) {t : TimePoint} →
-    entry_of (proximity_of limit agent obstacle) ≡ E.At t → is_inside agent t ≡ true → is_inside obstacle t ≡ true →
+    entry_of (proximity_of limit agent obstacle) ≡ Some t → is_inside agent t ≡ true → is_inside obstacle t ≡ true →
     Long agent obstacle
 inside_is_long limit agent obstacle e h k = (inside_reached limit agent obstacle e h k).long

@@ -3,7 +3,6 @@
 use Rattle.std.specs.Prelude.{Bool, cond, Float}
 use Rattle.std.specs.Float.Ieee
 use Rattle.std.specs.Float.{binary64}
-use Rattle.refusals.specs.Names.{STRAYED}
 use Rattle.floats.specs.Quadratic.{dot}
 use Rattle.floats.specs.Compare.{size_of}
 use Rattle.floats.specs.Constants.{ten_thousandth}
@@ -13,10 +12,14 @@ use Rattle.times.specs.declared.time.Duration.{Duration}
 use Rattle.shapes.specs.declared.waypoint.Leg.{Leg}
 use Rattle.shapes.specs.declared.vector.Vector.{Vector}
 use Rattle.motions.specs.Motion.{motion_at}
-use Rattle.motions.specs.declared.motion.Motion.{Motion}
-use Rattle.motions.specs.declared.motion.Motion.TheVariants.{At, Outside, Strayed}
 use Rattle.proximity.specs.declared.detect.Proximity.{Proximity}
-use Rattle.proximity.specs.declared.detect.Proximity.TheVariants.{Never, Enters, Passes, Refused}
+use Rattle.proximity.specs.declared.detect.Proximity.TheVariants.{Never, Enters, Passes}
+use Rattle.std.specs.Prelude.{Result, Ok, Err}
+use Rattle.std.specs.Prelude.{Option, Some, None}
+use Rattle.times.specs.declared.time.Strayed.{Strayed}
+use Rattle.motions.specs.declared.motion.State.{State}
+use Rattle.refusals.specs.declared.Refusal.{Refusal}
+use Rattle.refusals.specs.declared.Refusal.TheVariants as Refusals
 
 -- From the later start to the earlier end (RULES 8.4).
 abbrev pub range_start : Leg → Leg → TimePoint
@@ -37,25 +40,25 @@ is_near limit p q =
     Ieee.le (dot x y x y) limit
 
 -- The entry at t, where both legs have a place then and are near (RULES 8.7); both durations come first (RULES 8.8).
-abbrev pub near_by : Float → Motion → Motion → TimePoint → Proximity
-near_by limit (At p) (At q) t = cond (is_near limit p.place q.place) (Enters t) Never
-near_by limit (At p) Outside t = Never
-near_by limit (At p) Strayed t = Refused STRAYED
-near_by limit Outside (At q) t = Never
-near_by limit Outside Outside t = Never
-near_by limit Outside Strayed t = Refused STRAYED
-near_by limit Strayed other t = Refused STRAYED
+abbrev pub near_by : Float → Result (Option State) Strayed → Result (Option State) Strayed → TimePoint → Result Proximity Refusal
+near_by limit (Ok (Some p)) (Ok (Some q)) t = cond (is_near limit p.place q.place) (Ok (Enters t)) (Ok Never)
+near_by limit (Ok (Some p)) (Ok None) t = Ok Never
+near_by limit (Ok (Some p)) (Err _) t = Err Refusals.Strayed
+near_by limit (Ok None) (Ok (Some q)) t = Ok Never
+near_by limit (Ok None) (Ok None) t = Ok Never
+near_by limit (Ok None) (Err _) t = Err Refusals.Strayed
+near_by limit (Err _) other t = Err Refusals.Strayed
 
-unfoldable pub near_at : Float → Leg → Leg → TimePoint → Proximity
+unfoldable pub near_at : Float → Leg → Leg → TimePoint → Result Proximity Refusal
 near_at limit agent obstacle t = near_by limit (motion_at agent t) (motion_at obstacle t) t
 
 -- The first of two answers that says something.
-abbrev pub or_at_end : Proximity → Proximity → Proximity
-or_at_end Never second = second
-or_at_end (Enters t) second = Enters t
-or_at_end (Passes t u) second = Passes t u
-or_at_end (Refused n) second = Refused n
+abbrev pub or_at_end : Result Proximity Refusal → Result Proximity Refusal → Result Proximity Refusal
+or_at_end (Ok Never) second = second
+or_at_end (Ok (Enters t)) second = Ok (Enters t)
+or_at_end (Ok (Passes t u)) second = Ok (Passes t u)
+or_at_end (Err why) second = Err why
 
 -- Each end in turn, the range's start first (RULES 8.7).
-unfoldable pub short_range : Float → Leg → Leg → TimePoint → TimePoint → Proximity
+unfoldable pub short_range : Float → Leg → Leg → TimePoint → TimePoint → Result Proximity Refusal
 short_range limit agent obstacle t0 t1 = or_at_end (near_at limit agent obstacle t0) (near_at limit agent obstacle t1)

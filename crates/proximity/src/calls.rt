@@ -5,70 +5,57 @@ ghost use Rattle.proximity.specs.Asked.{asked_position, legs_examined, asked_pro
 use crate::detect;
 use crate::detect::Proximity;
 use domain::limits;
-use domain::limits::Examined;
 use motions::motion;
-use motions::motion::{Motion, State};
+use motions::motion::State;
+use refusals::Refusal;
 use shapes::waypoint::Leg;
 use times::time::TimePoint;
 
-// A leg at an instant: its state, that it is nowhere then, or a refusal and its number.
-#[derive(Clone, Copy)]
-pub enum Whereabouts {
-    At(State),
-    Outside,
-    Refused(u64),
-}
-
-// Where a leg of the agent's is at the instant t, and how fast it goes.
-pub fn position(leg: Leg, t: TimePoint) -> Whereabouts
+// Where a leg of the agent's is at the instant t, and how fast it goes, or nothing where its times do not hold t.
+#[tactic(auto, unfolding(crate::specs::Asked::asked_position))]
+pub fn position(leg: Leg, t: TimePoint) -> Result<Option<State>, Refusal>
     ensures { result ≡ asked_position leg t }
 {
     if !limits::is_leg(leg) {
-        return Whereabouts::Refused(refusals::NUMBER);
+        return Err(Refusal::Number);
     }
     if !limits::is_time(t) {
-        return Whereabouts::Refused(refusals::NUMBER);
+        return Err(Refusal::Number);
     }
     if leg.is_backward() {
-        return Whereabouts::Refused(refusals::BACKWARD);
+        return Err(Refusal::Backward);
     }
-    let found = motion::motion_at(leg, t);
-    match found {
-        Motion::At(s) => Whereabouts::At(s),
-        Motion::Outside => Whereabouts::Outside,
-        Motion::Strayed => Whereabouts::Refused(refusals::STRAYED),
-    }
+    Ok(motion::motion_at(leg, t)?)
 }
 
 // What is wrong with the agent's leg, an obstacle's leg and a limit.
-pub fn examine_legs(limit: f64, agent: Leg, obstacle: Leg) -> Examined
+#[tactic(auto, unfolding(crate::specs::Asked::legs_examined))]
+pub fn examine_legs(limit: f64, agent: Leg, obstacle: Leg) -> Result<(), Refusal>
     ensures { result ≡ legs_examined limit agent obstacle }
 {
     if !obstacle.is_rising() {
-        return Examined::Refused(refusals::SHAPE);
+        return Err(Refusal::Shape);
     }
     if !limits::is_leg(agent) {
-        return Examined::Refused(refusals::NUMBER);
+        return Err(Refusal::Number);
     }
     if !limits::is_limit(limit) {
-        return Examined::Refused(refusals::NUMBER);
+        return Err(Refusal::Number);
     }
     if !limits::is_leg(obstacle) {
-        return Examined::Refused(refusals::NUMBER);
+        return Err(Refusal::Number);
     }
     if agent.is_backward() {
-        return Examined::Refused(refusals::BACKWARD);
+        return Err(Refusal::Backward);
     }
-    Examined::Fine
+    Ok(())
 }
 
 // When the agent's leg and an obstacle's come within the limit, and when they leave it.
-pub fn proximity(limit: f64, agent: Leg, obstacle: Leg) -> Proximity
+#[tactic(auto, unfolding(crate::specs::Asked::asked_proximity))]
+pub fn proximity(limit: f64, agent: Leg, obstacle: Leg) -> Result<Proximity, Refusal>
     ensures { result ≡ asked_proximity limit agent obstacle }
 {
-    let input = examine_legs(limit, agent, obstacle);
-    match input {
-        Examined::Refused(n) => Proximity::Refused(n),
-        Examined::Fine => detect::detect_proximity(limit, agent, obstacle),
-    }
+    examine_legs(limit, agent, obstacle)?;
+    detect::detect_proximity(limit, agent, obstacle)
 }

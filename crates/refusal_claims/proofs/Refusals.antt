@@ -22,13 +22,12 @@ use Rattle.refusal_claims.proofs.LonePath.{path_refused}
 use Rattle.refusal_claims.proofs.Plan.{plan_refused}
 use Rattle.refusal_claims.proofs.Segment.{segment_refused}
 use Rattle.refusal_claims.proofs.Shapes.{position_refused, box_refused, hull_refused}
+use Rattle.refusals.specs.declared.Refusal.TheVariants as Refusals
+use Rattle.refusals.proofs.Numbers.{above_nought}
 
--- ---- 0 and 9 are no number of a plan's refusal.
+-- ---- 9 is no number of a plan's refusal.
 
-not_zero : PlanRefusal 0 → ⊥
-not_zero r = elim r [ ]
-
-not_nine : PlanRefusal 9 → ⊥
+not_nine : PlanRefusal Refusals.Late → ⊥
 not_nine r = elim r [ ]
 
 -- ---- The number that is handed back.
@@ -37,11 +36,10 @@ fits_nought : (plan : Plan) (room actionRoom : ℕ) → Fitting plan room action
 unfolding plan_number
 fits_nought plan room actionRoom f = rw (f.planned, f.fitting)
 
-nought_fits : (plan : Plan) (room actionRoom : ℕ) → ((n : ℕ) → plan ≡ Refused n → PlanRefusal n) →
-    plan_number plan room actionRoom ≡ 0 → Fitting plan room actionRoom
+nought_fits : (plan : Plan) (room actionRoom : ℕ) → plan_number plan room actionRoom ≡ 0 → Fitting plan room actionRoom
 unfolding plan_number
-nought_fits (Refused n) room actionRoom h e = absurd (not_zero (rw e at (h n refl)))
-nought_fits (Planned hints times sweeps ps) room actionRoom h e =
+nought_fits (Refused why) room actionRoom e = absurd (above_nought why e)
+nought_fits (Planned hints times sweeps ps) room actionRoom e =
     by (both_hold room actionRoom (1 + length ps) (length (all_actions ps))) refl e
   where
     by : (b : Bool) → both_hold room actionRoom (1 + length ps) (length (all_actions ps)) ≡ b → ◌≡◌ {A = ℕ} (cond b 0 12) 0 →
@@ -71,10 +69,10 @@ agent_refused p agent lent =
       hints = hints_refused p agent lent;
       path = λ arrival budget words. path_refused p agent arrival budget lent words;
       plan = λ budget. plan_refused p agent budget lent;
-      not_nought = λ {n} budget e zero. not_zero (rw zero at (plan_refused p agent budget lent e));
+      not_nought = λ {why} budget e. above_nought why;
       never_nine = λ budget e. not_nine (plan_refused p agent budget lent e);
       nought = λ budget room actionRoom. (
-        nought_fits (asked_plan p agent budget lent) room actionRoom (λ n. plan_refused p agent budget lent),
+        nought_fits (asked_plan p agent budget lent) room actionRoom,
         fits_nought (asked_plan p agent budget lent) room actionRoom,
       );
     }

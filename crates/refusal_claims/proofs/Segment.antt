@@ -1,6 +1,5 @@
 -- Whether a segment is safe is refused by 1, 2, 3 or 5: a leg that it is held against lasts at its time (RULES 2.7, 4.6, 9.8).
 -- Assumes nothing.
-use Prim.Native.Nat.{ℕ}
 use mathlib.Core.Path.{◌≡◌, refl, ap, ◌∙◌}
 use mathlib.Core.Logic.{⊎_elim}
 use mathlib.Core.Bool.{Bool, true, false, not, ◌&&◌}
@@ -15,16 +14,12 @@ use Rattle.times.proofs.Exact.{both}
 use Rattle.shapes.specs.Box.{box_of_leg}
 use Rattle.domain.specs.Domain.{is_limit, is_waypoint, is_leg, is_profile}
 use Rattle.shapes.specs.Leg.{is_backward, is_rising}
-use Rattle.domain.specs.declared.limits.Examined.{Examined}
-use Rattle.domain.specs.declared.limits.Examined.TheVariants as X
 use Rattle.shapes.specs.declared.profile.CircularProfile.{CircularProfile}
 use Rattle.shapes.specs.declared.waypoint.Leg.{Leg}
 use Rattle.proximity.specs.Proximity.{proximity_of}
 use Rattle.proximity.specs.Range.{range_start, range_end}
-use Rattle.proximity.specs.declared.detect.Proximity.TheVariants as P
 use Rattle.proximity.proofs.Holding.{starts, ends}
 use Rattle.proximity.proofs.OnDomain.{proximity_in_range}
-use Rattle.conflicts.specs.declared.conflict.Verdict.TheVariants as J
 use Rattle.conflicts.proofs.Conflicts.{refused_by_proximity}
 use Rattle.table.specs.Examined.{is_laid, is_allowed, are_allowed, agent_examined}
 use Rattle.table.specs.Lent.{Lent, obstacles_of}
@@ -36,6 +31,9 @@ use Rattle.segments.specs.Segment.{is_during, segment_of}
 use Rattle.segments.proofs.Safe.{refused}
 use Rattle.refusal_claims.specs.Numbers.{SegmentRefusal, Number, Shape, Backward, Creep}
 use Rattle.refusal_claims.proofs.Examined.{Finds, agent_finds}
+use Rattle.std.specs.Prelude.{Result, Ok, Err}
+use Rattle.refusals.specs.declared.Refusal.{Refusal}
+use Rattle.refusals.specs.declared.Refusal.TheVariants as Refusals
 
 -- ---- A leg that lasts at the agent's time.
 
@@ -64,14 +62,14 @@ each test (y ∷ ys) e x m =
 
 -- ---- The call.
 
-module _ (p : CircularProfile) (agent : Leg) (lent : Lent) {n : ℕ} where
-  creeps : agent_examined p agent lent ≡ X.Fine →
-      segment_of agent (box_of_leg p.footprint agent) (obstacles_of lent) ≡ J.Refused n → SegmentRefusal n
+module _ (p : CircularProfile) (agent : Leg) (lent : Lent) {why : Refusal} where
+  creeps : agent_examined p agent lent ≡ (Ok tt) →
+      segment_of agent (box_of_leg p.footprint agent) (obstacles_of lent) ≡ Err why → SegmentRefusal why
   unfolding agent_examined are_allowed is_allowed
   creeps fine e =
       let os = obstacles_of lent in
       let bounds = box_of_leg p.footprint agent in
-      let f = refused agent bounds os n e in
+      let f = refused agent bounds os why e in
       let o = f.obstacle in
       let leg = f.leg in
       let a = accepted p agent lent fine in
@@ -81,17 +79,17 @@ module _ (p : CircularProfile) (agent : Leg) (lent : Lent) {n : ℕ} where
       let numbers = both (is_profile o.profile) (is_limit o.limit && every is_waypoint o.waypoints)
       (each is_allowed os (fine_fits (is_laid lent) p agent os fine).allowed o f.met.obstacle) in
       let limited = (both (is_limit o.limit) (every is_waypoint o.waypoints) numbers.1).0 in
-      let near : proximity_of o.limit agent leg ≡ P.Refused n =
+      let near : proximity_of o.limit agent leg ≡ Err why =
       refused_by_proximity agent bounds leg (box_of_leg o.profile.footprint leg) o.limit f.verdict in
-      ⊎_elim (λ (five : n ≡ 5). rw five Creep)
+      ⊎_elim (λ (five : why ≡ Refusals.Creep). rw five Creep)
       (λ gap. absurd (clash_ℤ gap.1 (meets agent leg a.forward driven.1 f.met.during)))
       (rw near at (proximity_in_range o.limit agent leg limited a.own driven.0))
 
-  pub segment_refused : asked_segment p agent lent ≡ J.Refused n → SegmentRefusal n
+  pub segment_refused : asked_segment p agent lent ≡ Err why → SegmentRefusal why
   unfolding asked_segment
   segment_refused = by (agent_examined p agent lent) refl (agent_finds SegmentRefusal Number Shape Backward p agent lent)
     where
-      by : (x : Examined) → agent_examined p agent lent ≡ x → Finds SegmentRefusal x →
-          asked_segment p agent lent ≡ J.Refused n → SegmentRefusal n
-      by X.Fine e h told = creeps e (rw e at told)
-      by (X.Refused m) e h told = let same : m ≡ n = cc (rw e at told) in rw same at h
+      by : (x : Result Unit Refusal) → agent_examined p agent lent ≡ x → Finds SegmentRefusal x →
+          asked_segment p agent lent ≡ Err why → SegmentRefusal why
+      by (Ok tt) e h told = creeps e (rw e at told)
+      by (Err own) e h told = let same : own ≡ why = cc (rw e at told) in rw same at h

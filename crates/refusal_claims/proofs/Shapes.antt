@@ -1,6 +1,5 @@
 -- The position and the box of a leg are refused by 1 or 3, the box of an obstacle by 1 or 2 (RULES 4.1 to 4.3, 5.1).
 -- Assumes nothing.
-use Prim.Native.Nat.{ℕ}
 use mathlib.Core.Path.{◌≡◌, refl}
 use mathlib.Core.Bool.{Bool, true, false, ◌&&◌, cond}
 use mathlib.Core.List.{List}
@@ -15,32 +14,31 @@ use Rattle.shapes.specs.Box.{box_of_leg}
 use Rattle.domain.specs.Domain.{is_time, is_leg, is_profile}
 use Rattle.shapes.specs.Leg.{is_backward}
 use Rattle.shapes.specs.declared.bounding_box.BoundingBox.{BoundingBox}
-use Rattle.domain.specs.declared.calls.Boxed.{Boxed}
-use Rattle.domain.specs.declared.calls.Boxed.TheVariants as B
 use Rattle.shapes.specs.declared.profile.CircularProfile.{CircularProfile}
 use Rattle.shapes.specs.declared.waypoint.Leg.{Leg}
 use Rattle.domain.proofs.Within.{time_exact}
 use Rattle.proximity.specs.Asked.{asked_position}
 use Rattle.motions.specs.Motion.{motion_at}
-use Rattle.proximity.specs.declared.calls.Whereabouts.{Whereabouts}
-use Rattle.proximity.specs.declared.calls.Whereabouts.TheVariants as W
-use Rattle.motions.specs.declared.motion.Motion.{Motion}
 use Rattle.proximity.proofs.Arrivals.{times_given}
-use Rattle.proximity.proofs.Moving.{Motioned, there, outside, strayed, motion, never_strays}
+use Rattle.proximity.proofs.Moving.{Motioned, there, outside, adrift, motion, never_strays}
 use Rattle.proximity.proofs.Placed.{accepted}
 use Rattle.table.specs.Examined.{is_laid, is_shaped, are_allowed}
 use Rattle.table.specs.Lent.{obstacles_of}
 use Rattle.table_checks.specs.Asked.{alone, asked_hull}
-use Rattle.table_checks.specs.declared.calls.Hull.{Hull}
-use Rattle.table_checks.specs.declared.calls.Hull.TheVariants as H
 use Rattle.refusal_claims.specs.Numbers.{LegRefusal, HullRefusal, Number, Shape, Backward}
+use Rattle.std.specs.Prelude.{Result, Ok, Err}
+use Rattle.refusals.specs.declared.Refusal.{Refusal}
+use Rattle.std.specs.Prelude.{Option, Some, None}
+use Rattle.motions.specs.declared.motion.State.{State}
+use Rattle.times.specs.declared.time.Strayed.{Strayed}
+use Rattle.refusals.specs.declared.Refusal.TheVariants as Refusals
 
 -- ---- One leg.
 
-abbrev Stands : Whereabouts → Type 0
-Stands (W.At s) = Unit {0}
-Stands W.Outside = Unit {0}
-Stands (W.Refused n) = LegRefusal n
+abbrev Stands : Result (Option State) Refusal → Type 0
+Stands (Ok (Some s)) = Unit {0}
+Stands (Ok None) = Unit {0}
+Stands (Err why) = LegRefusal why
 
 module _ (leg : Leg) where
   -- A leg of the table does not stray at an instant of the table (RULES 3.1, 4.7).
@@ -48,11 +46,11 @@ module _ (leg : Leg) where
   unfolding asked_position
   stands t = by (is_leg leg && is_time t) (is_backward leg) refl refl
     where
-      moves : {m : Motion} → is_leg leg ≡ true → is_time t ≡ true → motion_at leg t ≡ m → Motioned leg t m →
-          is_backward leg ≡ false → Stands (asked_position leg t)
+      moves : {m : Result (Option State) Strayed} → is_leg leg ≡ true → is_time t ≡ true → motion_at leg t ≡ m →
+          Motioned leg t m → is_backward leg ≡ false → Stands (asked_position leg t)
       moves own timed e (there m) forward = rw (own, timed, forward, e) tt
       moves own timed e (outside h) forward = rw (own, timed, forward, e) tt
-      moves own timed e (strayed s) forward =
+      moves own timed e (adrift s) forward =
           let a = accepted leg own in
           absurd (never_strays (times_given _ _ a.start_time a.end_time) (time_exact t timed) s)
 
@@ -63,31 +61,32 @@ module _ (leg : Leg) where
           let h = both (is_leg leg) (is_time t) e in moves h.0 h.1 refl (motion leg t) b
       by false backward e b = rw e Number
 
-  pub position_refused : (t : TimePoint) {n : ℕ} → asked_position leg t ≡ W.Refused n → LegRefusal n
+  pub position_refused : (t : TimePoint) {why : Refusal} → asked_position leg t ≡ Err why → LegRefusal why
   position_refused t e = rw e at (stands t)
 
-  abbrev Boxes : Boxed → Type 0
-  Boxes (B.Of b) = Unit {0}
-  Boxes (B.Refused n) = LegRefusal n
+  abbrev Boxes : Result BoundingBox Refusal → Type 0
+  Boxes (Ok b) = Unit {0}
+  Boxes (Err why) = LegRefusal why
 
   boxes : (p : CircularProfile) → Boxes (asked_box p leg)
   unfolding asked_box
   boxes p = by (is_profile p && is_leg leg) (is_backward leg) (box_of_leg p.footprint leg)
     where
-      by : (allowed backward : Bool) (b : BoundingBox) → Boxes (cond allowed (cond backward (B.Refused 3) (B.Of b)) (B.Refused 1))
+      by : (allowed backward : Bool) (b : BoundingBox) →
+          Boxes (cond allowed (cond backward (Err Refusals.Backward) (Ok b)) (Err Refusals.Number))
       by true true b = Backward
       by true false b = tt
       by false backward b = Number
 
-  pub box_refused : (p : CircularProfile) {n : ℕ} → asked_box p leg ≡ B.Refused n → LegRefusal n
+  pub box_refused : (p : CircularProfile) {why : Refusal} → asked_box p leg ≡ Err why → LegRefusal why
   box_refused p e = rw e at (boxes p)
 
 -- ---- One obstacle.
 
-abbrev Hulls : Hull → Type 0
-Hulls (H.Of b) = Unit {0}
-Hulls H.Missing = Unit {0}
-Hulls (H.Refused n) = HullRefusal n
+abbrev Hulls : Result (Option BoundingBox) Refusal → Type 0
+Hulls (Ok (Some b)) = Unit {0}
+Hulls (Ok None) = Unit {0}
+Hulls (Err why) = HullRefusal why
 
 module _ (p : CircularProfile) (times : List ℤ) (xs ys : List Float) where
   hulls : Hulls (asked_hull p times xs ys)
@@ -98,11 +97,11 @@ module _ (p : CircularProfile) (times : List ℤ) (xs ys : List Float) where
       by (is_laid own && is_shaped os) (are_allowed os) (eqb (length times) 0) _
     where
       by : (shaped allowed none : Bool) (b : BoundingBox) →
-          Hulls (cond shaped (cond allowed (cond none H.Missing (H.Of b)) (H.Refused 1)) (H.Refused 2))
+          Hulls (cond shaped (cond allowed (cond none (Ok None) (Ok (Some b))) (Err Refusals.Number)) (Err Refusals.Shape))
       by true true true b = tt
       by true true false b = tt
       by true false none b = Number
       by false allowed none b = Shape
 
-  pub hull_refused : {n : ℕ} → asked_hull p times xs ys ≡ H.Refused n → HullRefusal n
+  pub hull_refused : {why : Refusal} → asked_hull p times xs ys ≡ Err why → HullRefusal why
   hull_refused e = rw e at hulls

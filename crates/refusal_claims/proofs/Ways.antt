@@ -1,6 +1,5 @@
 -- Travel, the goal's contour and the tests of the path search are refused by 1, 5, 6 or 7 (RULES 4.1, 4.5 to 4.7, 5.8).
 -- Assumes nothing.
-use Prim.Native.Nat.{ℕ}
 use mathlib.Core.Path.{◌≡◌, refl}
 use mathlib.Core.Bool.{Bool, true, false, cond}
 use mathlib.Core.List.{List}
@@ -9,13 +8,7 @@ use lib.Ieee.{Float, binary64}
 use lib.Signed.{lt_z}
 use Rattle.root.specs.Root.{with_root}
 use Rattle.times.specs.Time.{span_between, instant_after_seconds, with_span, with_instant}
-use Rattle.times.specs.declared.time.Instant.{Instant}
-use Rattle.times.specs.declared.time.Instant.TheVariants as I
-use Rattle.times.specs.declared.time.Span.{Span}
-use Rattle.times.specs.declared.time.Span.TheVariants as S
 use Rattle.times.specs.declared.time.TimePoint.{TimePoint}
-use Rattle.root.specs.declared.nearest.Root.{Root}
-use Rattle.root.specs.declared.nearest.Root.TheVariants as R
 use Rattle.shapes.specs.Box.{box_of_leg}
 use Rattle.shapes.specs.Leg.{place_of}
 use Rattle.shapes.specs.Vector.{vector_difference}
@@ -38,19 +31,21 @@ use Rattle.path_roots.specs.Roots.{lateness, goal_contour}
 use Rattle.path_tests.specs.Tests.{to_end, to_goal, waits_at, from_start, stays_till, straight}
 use Rattle.path_tests.specs.Travel.{waypoint_at, reached_from, with_reached}
 use Rattle.path_tests.specs.Way.{trial_of, way_of, next, both_ways}
-use Rattle.path_roots.specs.declared.roots.Contour.{Contour}
-use Rattle.path_roots.specs.declared.roots.Contour.TheVariants as C
-use Rattle.path_tests.specs.declared.travel.Reached.{Reached}
-use Rattle.path_tests.specs.declared.travel.Reached.TheVariants as W
 use Rattle.path_tests.specs.declared.trip.Trip.{Trip}
 use Rattle.refusal_claims.specs.Numbers.{PathRefusal, Number, Creep, Apart, Strayed}
 use Rattle.refusal_claims.proofs.Chain.{Tests}
+use Rattle.std.specs.Prelude.{Result, Ok, Err}
+use Rattle.times.specs.declared.time.Strayed as Time
+use Rattle.times.specs.declared.time.Duration.{Duration}
+use Rattle.root.specs.declared.nearest.NoRoot.{NoRoot}
+use Rattle.refusals.specs.declared.Refusal.{Refusal}
+use Rattle.refusals.specs.declared.Refusal.TheVariants as Refusals
 
 -- ---- Travel.
 
-abbrev pub Reaches : Reached → Type 0
-Reaches (W.At w) = Unit {0}
-Reaches (W.Refused n) = PathRefusal n
+abbrev pub Reaches : Result Waypoint Refusal → Type 0
+Reaches (Ok w) = Unit {0}
+Reaches (Err why) = PathRefusal why
 
 pub travels : (speed : Float) (from : Waypoint) (place : Vector) → Reaches (reached_from speed from place)
 unfolding reached_from
@@ -58,71 +53,75 @@ travels speed from place =
     by (norm_of (vector_difference place (place_of from)))
     (λ length. instant_after_seconds from.time (Ieee.div binary64 length speed))
   where
-    at : (i : Instant) → Reaches (with_instant (W.Refused 7) i (λ t. W.At (waypoint_at place t)))
-    at (I.At t) = tt
-    at I.Strayed = Strayed
+    at : (i : Result TimePoint Time.Strayed) → Reaches (with_instant (Err Refusals.Strayed) i (λ t. Ok (waypoint_at place t)))
+    at (Ok t) = tt
+    at (Err _) = Strayed
 
-    by : (root : Root) (when : Float → Instant) →
-        Reaches (with_root (W.Refused 1) root (λ length. with_instant (W.Refused 7) (when length) (λ t. W.At (waypoint_at place t))))
-    by (R.Of s) when = at (when s)
-    by R.Refused when = Number
+    by : (root : Result Float NoRoot) (when : Float → Result TimePoint Time.Strayed) →
+        Reaches (with_root (Err Refusals.Number) root (λ length.
+        with_instant (Err Refusals.Strayed) (when length) (λ t.
+        Ok (waypoint_at place t))))
+    by (Ok s) when = at (when s)
+    by (Err _) when = Number
 
 -- ---- The contour of the goal.
 
-abbrev pub Contours : Contour → Type 0
-Contours (C.Of d) = Unit {0}
-Contours (C.Refused n) = PathRefusal n
+abbrev pub Contours : Result Duration Refusal → Type 0
+Contours (Ok d) = Unit {0}
+Contours (Err why) = PathRefusal why
 
 pub contours : (trip : Trip) (arrival : TimePoint) → Contours (goal_contour trip arrival)
 unfolding goal_contour
 contours trip arrival =
     by (norm_of (vector_difference (place_of trip.leg.end) (place_of trip.leg.start)))
   where
-    last : (s : Span) → Contours (with_span (C.Refused 7) s (λ contour. C.Of contour))
-    last (S.Of d) = tt
-    last S.Strayed = Strayed
+    last : (s : Result Duration Time.Strayed) → Contours (with_span (Err Refusals.Strayed) s (λ contour. Ok contour))
+    last (Ok d) = tt
+    last (Err _) = Strayed
 
-    spans : (s : Span) (reach : Float) →
-        Contours (with_span (C.Refused 7) s (λ wait. with_span (C.Refused 7) (lateness trip.speed wait reach) (λ contour. C.Of contour)))
-    spans (S.Of wait) reach = last (lateness trip.speed wait reach)
-    spans S.Strayed reach = Strayed
+    spans : (s : Result Duration Time.Strayed) (reach : Float) →
+        Contours (with_span (Err Refusals.Strayed) s (λ wait.
+        with_span (Err Refusals.Strayed) (lateness trip.speed wait reach) (λ contour. Ok contour)))
+    spans (Ok wait) reach = last (lateness trip.speed wait reach)
+    spans (Err _) reach = Strayed
 
-    by : (root : Root) → Contours (with_root (C.Refused 1) root (λ reach.
-        with_span (C.Refused 7) (span_between trip.leg.start.time arrival) (λ wait.
-        with_span (C.Refused 7) (lateness trip.speed wait reach) (λ contour. C.Of contour))))
-    by (R.Of reach) = spans (span_between trip.leg.start.time arrival) reach
-    by R.Refused = Number
+    by : (root : Result Float NoRoot) → Contours (with_root (Err Refusals.Number) root (λ reach.
+        with_span (Err Refusals.Strayed) (span_between trip.leg.start.time arrival) (λ wait.
+        with_span (Err Refusals.Strayed) (lateness trip.speed wait reach) (λ contour. Ok contour))))
+    by (Ok reach) = spans (span_between trip.leg.start.time arrival) reach
+    by (Err _) = Number
 
 -- ---- Segments.
 
-early : {n : ℕ} → Early n → PathRefusal n
+early : {why : Refusal} → Early why → PathRefusal why
 early by_root = Number
 early by_creep = Creep
 early by_gap = Apart
 early by_reach = Strayed
 
 -- Any segment, a backward one too, is refused as proximity is (RULES 9.9, 5.11).
-segment_refused : (leg : Leg) (bounds : BoundingBox) (os : List Obstacle) (n : ℕ) →
-    segment_of leg bounds os ≡ J.Refused n → PathRefusal n
-segment_refused leg bounds os n e =
-    let f = refused leg bounds os n e in
+segment_refused : (leg : Leg) (bounds : BoundingBox) (os : List Obstacle) (why : Refusal) →
+    segment_of leg bounds os ≡ Err why → PathRefusal why
+segment_refused leg bounds os why e =
+    let f = refused leg bounds os why e in
     let o = f.obstacle in
     let other = box_of_leg o.profile.footprint f.leg in
     early (refuses_early o.limit leg f.leg (refused_by_proximity leg bounds f.leg other o.limit f.verdict))
 
 -- ---- Tests.
 
-abbrev pub Tried : Trial → Type 0
+abbrev pub Tried : Result Trial Refusal → Type 0
 Tried = Tests PathRefusal
 
-reaching_tried : (r : Reached) (go : Waypoint → Trial) → Reaches r → ((w : Waypoint) → Tried (go w)) → Tried (with_reached T.Refused r go)
-reaching_tried (W.At w) go h k = k w
-reaching_tried (W.Refused n) go h k = h
+reaching_tried : (r : Result Waypoint Refusal) (go : Waypoint → Result Trial Refusal) → Reaches r →
+    ((w : Waypoint) → Tried (go w)) → Tried (with_reached Err r go)
+reaching_tried (Ok w) go h k = k w
+reaching_tried (Err why) go h k = h
 
-next_tried : (t u : Trial) → Tried t → Tried u → Tried (next t (λ _. u))
-next_tried T.Passed u h k = k
-next_tried T.Failed u h k = tt
-next_tried (T.Refused n) u h k = h
+next_tried : (t u : Result Trial Refusal) → Tried t → Tried u → Tried (next t (λ _. u))
+next_tried (Ok T.Passed) u h k = k
+next_tried (Ok T.Failed) u h k = tt
+next_tried (Err why) u h k = h
 
 module _ (p : CircularProfile) (os : List Obstacle) where
   way_tried : (from to : Waypoint) → Tried (way_of p os from to)
@@ -132,10 +131,10 @@ module _ (p : CircularProfile) (os : List Obstacle) where
       let bounds = box_of_leg p.footprint leg in
       by (segment_of leg bounds os) (segment_refused leg bounds os)
     where
-      by : (v : Verdict) → ((n : ℕ) → v ≡ J.Refused n → PathRefusal n) → Tried (trial_of v)
-      by J.Clear h = tt
-      by J.Conflict h = tt
-      by (J.Refused n) h = h n refl
+      by : (v : Result Verdict Refusal) → ((why : Refusal) → v ≡ Err why → PathRefusal why) → Tried (trial_of v)
+      by (Ok J.Clear) h = tt
+      by (Ok J.Conflict) h = tt
+      by (Err why) h = h why refl
 
   both_tried : (from via to : Waypoint) → Tried (both_ways p os from via to)
   unfolding both_ways
@@ -160,7 +159,7 @@ module _ (trip : Trip) (os : List Obstacle) where
   unfolding waits_at
   wait_tried w h = by (lt_z h.time.0 w.time.0)
     where
-      by : (late : Bool) → Tried (cond late T.Failed (way_of trip.profile os w h))
+      by : (late : Bool) → Tried (cond late (Ok T.Failed) (way_of trip.profile os w h))
       by true = tt
       by false = way_tried trip.profile os w h
 
@@ -182,7 +181,7 @@ module _ (trip : Trip) (os : List Obstacle) where
       till : Waypoint
       till = record { time = asked; x = w.x; y = w.y }
 
-      by : (later : Bool) → Tried (cond later (way_of trip.profile os w till) T.Passed)
+      by : (later : Bool) → Tried (cond later (way_of trip.profile os w till) (Ok T.Passed))
       by true = way_tried trip.profile os w till
       by false = tt
 

@@ -1,100 +1,100 @@
 -- The numbers that each call is refused by, out of the table of refusals (RULES, section 4). Those of the call for arrival times
 -- stand in `search_claims`.
 -- Assumes nothing.
-use Rattle.std.specs.Prelude.{ℕ}
-use Rattle.refusals.specs.Names.{NUMBER, SHAPE, BACKWARD, NO_LINE, CREEP, APART, STRAYED, STUCK, FULL, SPENT}
+use Rattle.refusals.specs.declared.Refusal.TheVariants as Refusals
+use Rattle.refusals.specs.declared.Refusal.{Refusal}
 
 -- One leg of the agent's: where it is at an instant, and its box.
-pub data LegRefusal : ℕ → Type 0 where
+pub data LegRefusal : Refusal → Type 0 where
   -- A value is outside the table of the domain (RULES 4.1).
-  Number : LegRefusal NUMBER
+  Number : LegRefusal Refusals.Number
   -- The leg ends before it starts (RULES 4.3).
-  Backward : LegRefusal BACKWARD
+  Backward : LegRefusal Refusals.Backward
 
 -- The box of an obstacle.
-pub data HullRefusal : ℕ → Type 0 where
+pub data HullRefusal : Refusal → Type 0 where
   -- A value is outside the table of the domain (RULES 4.1).
-  Number : HullRefusal NUMBER
+  Number : HullRefusal Refusals.Number
   -- The lists do not fit one another, or a count or an order of times is outside the table (RULES 4.2).
-  Shape : HullRefusal SHAPE
+  Shape : HullRefusal Refusals.Shape
 
 -- Proximity of two legs, and their conflict.
-pub data LegsRefusal : ℕ → Type 0 where
+pub data LegsRefusal : Refusal → Type 0 where
   -- A value is outside the table of the domain (RULES 4.1).
-  Number : LegsRefusal NUMBER
+  Number : LegsRefusal Refusals.Number
   -- The obstacle's leg does not end after it starts (RULES 4.2).
-  Shape : LegsRefusal SHAPE
+  Shape : LegsRefusal Refusals.Shape
   -- The agent's leg ends before it starts (RULES 4.3).
-  Backward : LegsRefusal BACKWARD
+  Backward : LegsRefusal Refusals.Backward
   -- The legs hardly move against each other and yet come nearer or part (RULES 4.5).
-  Creep : LegsRefusal CREEP
+  Creep : LegsRefusal Refusals.Creep
   -- One leg begins after the other has ended (RULES 4.6).
-  Apart : LegsRefusal APART
+  Apart : LegsRefusal Refusals.Apart
 
 -- Whether a segment is safe. The legs that it is held against last at its time, so that none is apart from it.
-pub data SegmentRefusal : ℕ → Type 0 where
+pub data SegmentRefusal : Refusal → Type 0 where
   -- A value is outside the table of the domain (RULES 4.1).
-  Number : SegmentRefusal NUMBER
+  Number : SegmentRefusal Refusals.Number
   -- A count or an order of times is (RULES 4.2).
-  Shape : SegmentRefusal SHAPE
+  Shape : SegmentRefusal Refusals.Shape
   -- The agent would end before it starts (RULES 4.3).
-  Backward : SegmentRefusal BACKWARD
+  Backward : SegmentRefusal Refusals.Backward
   -- An obstacle's leg creeps (RULES 4.5).
-  Creep : SegmentRefusal CREEP
+  Creep : SegmentRefusal Refusals.Creep
 
 -- Hints alone.
-pub data HintsRefusal : ℕ → Type 0 where
+pub data HintsRefusal : Refusal → Type 0 where
   -- A value is outside the table of the domain (RULES 4.1).
-  Number : HintsRefusal NUMBER
+  Number : HintsRefusal Refusals.Number
   -- A count or an order of times is (RULES 4.2).
-  Shape : HintsRefusal SHAPE
+  Shape : HintsRefusal Refusals.Shape
   -- The agent would end before it starts (RULES 4.3).
-  Backward : HintsRefusal BACKWARD
+  Backward : HintsRefusal Refusals.Backward
   -- The agent's line or that of an obstacle's leg has no direction, or the call is short (RULES 4.4, 4.13).
-  NoLine : HintsRefusal NO_LINE
+  NoLine : HintsRefusal Refusals.NoLine
   -- A number of a hint is past what is allowed (RULES 4.7).
-  Strayed : HintsRefusal STRAYED
+  Strayed : HintsRefusal Refusals.Strayed
   -- There would be a 65th hint (RULES 4.10).
-  Full : HintsRefusal FULL
+  Full : HintsRefusal Refusals.Full
 
 -- One path alone.
-pub data PathRefusal : ℕ → Type 0 where
+pub data PathRefusal : Refusal → Type 0 where
   -- A value is outside the table of the domain, or lent hints are not ranked (RULES 4.1).
-  Number : PathRefusal NUMBER
+  Number : PathRefusal Refusals.Number
   -- A count or an order of times is outside the table (RULES 4.2).
-  Shape : PathRefusal SHAPE
+  Shape : PathRefusal Refusals.Shape
   -- The agent would end before it starts (RULES 4.3).
-  Backward : PathRefusal BACKWARD
+  Backward : PathRefusal Refusals.Backward
   -- The agent's line has no direction, or the call is short (RULES 4.4, 4.13).
-  NoLine : PathRefusal NO_LINE
+  NoLine : PathRefusal Refusals.NoLine
   -- An obstacle's leg creeps along a way that is tested (RULES 4.5).
-  Creep : PathRefusal CREEP
+  Creep : PathRefusal Refusals.Creep
   -- A way that is tested runs backward (RULES 4.6, 5.11, 13.27).
-  Apart : PathRefusal APART
+  Apart : PathRefusal Refusals.Apart
   -- An instant or a span of the search is past 2^53 ns (RULES 4.7).
-  Strayed : PathRefusal STRAYED
+  Strayed : PathRefusal Refusals.Strayed
   -- The search would make one pop more than its budget (RULES 4.11).
-  Spent : PathRefusal SPENT
+  Spent : PathRefusal Refusals.Spent
 
 -- A whole plan: by no other numbers than hints alone, arrival times alone and a path are.
-pub data PlanRefusal : ℕ → Type 0 where
+pub data PlanRefusal : Refusal → Type 0 where
   -- A value is outside the table of the domain (RULES 4.1).
-  Number : PlanRefusal NUMBER
+  Number : PlanRefusal Refusals.Number
   -- A count or an order of times is outside the table (RULES 4.2).
-  Shape : PlanRefusal SHAPE
+  Shape : PlanRefusal Refusals.Shape
   -- The agent would end before it starts (RULES 4.3).
-  Backward : PlanRefusal BACKWARD
+  Backward : PlanRefusal Refusals.Backward
   -- The agent's line or that of an obstacle's leg has no direction (RULES 4.4).
-  NoLine : PlanRefusal NO_LINE
+  NoLine : PlanRefusal Refusals.NoLine
   -- An obstacle's leg creeps along a way that is tested, or about the goal (RULES 4.5).
-  Creep : PlanRefusal CREEP
+  Creep : PlanRefusal Refusals.Creep
   -- A way that is tested runs backward (RULES 4.6, 5.11, 13.27). No plan is known that meets it by the hints of its own.
-  Apart : PlanRefusal APART
+  Apart : PlanRefusal Refusals.Apart
   -- A number of a hint, or an instant or a span of the search, is past what is allowed (RULES 4.7).
-  Strayed : PlanRefusal STRAYED
+  Strayed : PlanRefusal Refusals.Strayed
   -- The search for arrival times is stuck (RULES 4.8).
-  Stuck : PlanRefusal STUCK
+  Stuck : PlanRefusal Refusals.Stuck
   -- There would be a 65th hint (RULES 4.10).
-  Full : PlanRefusal FULL
+  Full : PlanRefusal Refusals.Full
   -- The search for a path would make one pop more than its budget (RULES 4.11).
-  Spent : PlanRefusal SPENT
+  Spent : PlanRefusal Refusals.Spent

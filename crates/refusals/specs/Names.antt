@@ -1,6 +1,9 @@
 -- The numbers of refusals, by the names that the rules give them (RULES 4.1 to 4.12).
 -- Assumes nothing.
 use Rattle.std.specs.Prelude.{ℕ}
+use Rattle.refusals.specs.declared.Refusal.{Refusal}
+use Rattle.refusals.specs.declared.Refusal.TheVariants.{Number, Shape, Backward, NoLine, Creep, Apart, Strayed}
+use Rattle.refusals.specs.declared.Refusal.TheVariants.{Stuck, Late, Full, Spent, NoRoom, Line, Overflow}
 
 abbrev pub NUMBER : ℕ
 NUMBER = 1
@@ -43,3 +46,20 @@ LINE = 14
 
 abbrev pub OVERFLOW : ℕ
 OVERFLOW = 15
+
+-- The number of each (RULES, section 4).
+abbrev pub refusal_number : Refusal → ℕ
+refusal_number Number = NUMBER
+refusal_number Shape = SHAPE
+refusal_number Backward = BACKWARD
+refusal_number NoLine = NO_LINE
+refusal_number Creep = CREEP
+refusal_number Apart = APART
+refusal_number Strayed = STRAYED
+refusal_number Stuck = STUCK
+refusal_number Late = LATE
+refusal_number Full = FULL
+refusal_number Spent = SPENT
+refusal_number NoRoom = NO_ROOM
+refusal_number Line = LINE
+refusal_number Overflow = OVERFLOW

@@ -1,3 +1,4 @@
-mod Reading
 mod Lines
+mod Passed
 mod Public
+mod Reading

@@ -1,6 +1,6 @@
 -- What a listed answer has to be, and what is found of a list of them.
 -- Assumes nothing.
-use Rattle.std.specs.Prelude.{ℕ, zero, suc, ◌+◌, ◌*◌, ◌/◌, Bool, true, false, ◌&&◌, cond, List, [], ◌∷◌, eqb, length, get_or, take, drop}
+use Rattle.std.specs.Prelude.{ℕ, zero, suc, ◌+◌, ◌*◌, ◌/◌, Bool, true, false, ◌&&◌, List, [], ◌∷◌, Option, Some, None, eqb, length, get_or, take, drop}
 use Rattle.std.specs.Float.Ieee
 use Rattle.std.specs.Float.{binary64}
 use Rattle.lent.specs.Outcome.{Outcome, Gives, number_of, room_of}
@@ -10,18 +10,19 @@ use Rattle.replay.specs.Line.{line_of}
 use Rattle.replay.specs.declared.calls.Verdict.{Verdict}
 use Rattle.replay.specs.declared.calls.Verdict.TheVariants.{AsListed, Differs, Malformed}
 use Rattle.replay.specs.declared.list.Answer.{Answer}
-use Rattle.replay.specs.declared.list.Line.{Line}
-use Rattle.replay.specs.declared.list.Line.TheVariants as L
+use Rattle.replay.specs.declared.list.Call.{Call}
+use Rattle.replay.specs.declared.list.Call.TheVariants as C
 
--- The calls by their numbers in a list.
-unfoldable pub outcome_of : ℕ → ℕ → ℕ → Outcome
-outcome_of call first second =
-    cond (eqb call 1) (span_outcome (span_between (record { 0 = signed_of first }) (record { 0 = signed_of second })))
-    (cond (eqb call 2) (instant_outcome (instant_after (record { 0 = signed_of first }) (record { 0 = signed_of second })))
-    (cond (eqb call 3) (Gives (Ieee.to_bits binary64 (seconds_of (signed_of first)) ∷ []))
-    (cond (eqb call 4) (Gives (Ieee.to_bits binary64 (seconds_of (signed_of first)) ∷ []))
-    (cond (eqb call 5) (instant_outcome (instant_of_seconds (Ieee.of_bits binary64 first)))
-    (span_outcome (span_of_seconds (Ieee.of_bits binary64 first)))))))
+-- What each call gives for its two words.
+unfoldable pub outcome_of : Call → ℕ → ℕ → Outcome
+outcome_of C.SpanBetween first second =
+    span_outcome (span_between (record { 0 = signed_of first }) (record { 0 = signed_of second }))
+outcome_of C.InstantAfter first second =
+    instant_outcome (instant_after (record { 0 = signed_of first }) (record { 0 = signed_of second }))
+outcome_of C.SecondsOfInstant first second = Gives (Ieee.to_bits binary64 (seconds_of (signed_of first)) ∷ [])
+outcome_of C.SecondsOfSpan first second = Gives (Ieee.to_bits binary64 (seconds_of (signed_of first)) ∷ [])
+outcome_of C.InstantOfSeconds first second = instant_outcome (instant_of_seconds (Ieee.of_bits binary64 first))
+outcome_of C.SpanOfSeconds first second = span_outcome (span_of_seconds (Ieee.of_bits binary64 first))
 
 -- A room of three words with one of them in front, and zeros.
 abbrev pub holds_at : List ℕ → ℕ → Bool
@@ -38,9 +39,9 @@ abbrev pub compared : Bool → (ℕ → Verdict) → ℕ → Verdict
 compared true go line = go line
 compared false go line = Differs line
 
-abbrev pub judged_line : Line → (ℕ → Verdict) → ℕ → Verdict
-judged_line (L.Is a) go line = compared (as_listed a) go line
-judged_line L.Malformed go line = Malformed line
+abbrev pub judged_line : Option Answer → (ℕ → Verdict) → ℕ → Verdict
+judged_line (Some a) go line = compared (as_listed a) go line
+judged_line None go line = Malformed line
 
 -- n more lines of 85 bytes, after `lines` that are as listed.
 unfoldable pub verdict_from : List ℕ → ℕ → ℕ → Verdict

@@ -2,50 +2,27 @@
 ghost use Rattle.std.specs.Prelude.{◌≡◌};
 ghost use Rattle.replay.specs.Hex.{digit_of, word_at};
 
-#[derive(Clone, Copy)]
-pub enum Word {
-    Is(u64),
-    Malformed,
-}
-
-// What a hex digit counts, and 16 for any other byte.
-fn digit(b: u8) -> u64
+// What a hex digit counts.
+#[tactic(auto, unfolding(crate::specs::Hex::digit_of))]
+fn digit(b: u8) -> Option<u64>
     ensures { result ≡ digit_of b }
 {
-    if b < b'0' {
-        return 16;
+    match b {
+        b'0'..=b'9' => Some((b - b'0') as u64),
+        b'a'..=b'f' => Some((b - b'a' + 10) as u64),
+        _ => None,
     }
-    if b <= b'9' {
-        return (b - b'0') as u64;
-    }
-    if b < b'a' {
-        return 16;
-    }
-    if b <= b'f' {
-        return (b - b'a' + 10) as u64;
-    }
-    16
 }
 
 // The word whose digits start at `at`.
-pub fn word_at(s: &[u8], at: usize) -> Word
+#[tactic(auto, unfolding(crate::specs::Hex::word_at))]
+pub fn word_at(s: &[u8], at: usize) -> Option<u64>
     ensures { result ≡ word_at s.now at }
 {
-    if s.len() < 16 {
-        return Word::Malformed;
-    }
-    if s.len() - 16 < at {
-        return Word::Malformed;
-    }
+    let digits = s.get(at..)?.get(..16)?;
     let mut v = 0u64;
-    let mut k = 0;
-    while k < 16 {
-        let d = digit(s[at + k]);
-        if 16 <= d {
-            return Word::Malformed;
-        }
-        v = v * 16 + d;
-        k += 1;
+    for b in digits {
+        v = v * 16 + digit(*b)?;
     }
-    Word::Is(v)
+    Some(v)
 }

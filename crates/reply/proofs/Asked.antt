@@ -23,6 +23,8 @@ use Rattle.request_format.specs.Request.{Reading, Of, Malformed}
 use Rattle.request_format.specs.Format.{read_of}
 use Rattle.request_reader.specs.Table.{request_profile, request_leg, table_of}
 use Rattle.request_reader.specs.Asked.{request_plan, stream_plan}
+use Rattle.refusals.specs.declared.Refusal.TheVariants as Refusals
+use Rattle.refusals.specs.declared.Refusal.{Refusal}
 
 -- ---- Of an asked plan.
 
@@ -48,26 +50,20 @@ few_paths p agent budget lent hints times sweeps ps e = by (is_brief agent) refl
 -- ---- Of a stream's plan.
 
 -- A stream that is no request is refused 2, which a plan can be too (RULES 14.17).
-pub stream_refused : (s : List ℕ) (n : ℕ) → stream_plan s ≡ Refused n → PlanRefusal n
+pub stream_refused : (s : List ℕ) (n : Refusal) → stream_plan s ≡ Refused n → PlanRefusal n
 unfolding stream_plan request_plan
 stream_refused s n e = by (read_of s) refl
   where
-    number_in : Plan → ℕ
-    number_in (Planned hints times sweeps ps) = 0
-    number_in (Refused m) = m
+    refusal_in : Plan → Refusal
+    refusal_in (Planned hints times sweeps ps) = Refusals.Number
+    refusal_in (Refused why) = why
 
     by : (r : Reading) → read_of s ≡ r → PlanRefusal n
     by (Of r) read =
         (agent_refused (request_profile r.footprint r.follow) (request_leg r) (table_of r.obstacles)).plan r.budget (rw read at e)
     by Malformed read =
-        let two : 2 ≡ n = ap number_in (rw read at e) in
+        let two : Refusals.Shape ≡ n = ap refusal_in (rw read at e) in
         rw (← two) Shape
-
-pub numbered : (s : List ℕ) (n : ℕ) → stream_plan s ≡ Refused n → n ≢ 0
-numbered s n e nought = none (rw nought at (stream_refused s n e))
-  where
-    none : PlanRefusal 0 → ⊥
-    none r = elim r [ ]
 
 pub few : (s : List ℕ) (hints times sweeps : ℕ) (ps : List Path) → stream_plan s ≡ Planned hints times sweeps ps → length ps ≤ 289
 unfolding stream_plan request_plan

@@ -20,8 +20,12 @@ use Rattle.request_reader.specs.Asked.{stream_plan}
 use Rattle.reply_lines.specs.Lines.{ok_line}
 use Rattle.reply_text.specs.Answer.{row_at, rows_of, plan_lines}
 use Rattle.reply.specs.Text.{paths_text, plan_reply, roomed, stream_reply}
-use Rattle.reply.proofs.Asked.{numbered, stream_refused, few}
+use Rattle.reply.proofs.Asked.{stream_refused, few}
+use Rattle.refusals.specs.Names.{refusal_number}
+use Rattle.refusals.proofs.Numbers.{not_nought}
 use Rattle.reply.proofs.Rows.{row_of_path, rows_cons, action_rows_law, path_rows_law, path_lines_law}
+use Rattle.refusals.specs.declared.Refusal.TheVariants as Refusals
+use Rattle.refusals.specs.declared.Refusal.{Refusal}
 
 -- A room with a plan's rows and zeros behind them, and one with its actions.
 lines_told : (hints times sweeps : ℕ) (ps : List Path) (zeros others : List ℕ) →
@@ -53,19 +57,19 @@ fits_few paths actions few = by (leb actions 1600) refl
 abbrev pub told_answer : ℕ → List ℕ → List ℕ → Outcome
 told_answer number paths actions = cond (eqb number 0) (Gives (plan_lines paths actions)) (Refuses number)
 
--- For every plan whose paths are at most 289 and whose refusals have a number.
-pub told_plan : (plan : Plan) → ((n : ℕ) → plan ≡ Refused n → n ≢ 0) →
+-- For every plan whose paths are at most 289: a refusal's number is not 0.
+pub told_plan : (plan : Plan) →
     ((hints times sweeps : ℕ) (ps : List Path) → plan ≡ Planned hints times sweeps ps → length ps ≤ 289) →
     told_answer (plan_number plan 1160 6400) (plan_room plan 1160 6400) (action_room_of plan 1160 6400) ≡ plan_reply (roomed plan)
 unfolding plan_number plan_room action_room_of roomed plan_reply
-told_plan (Refused n) numbered few = rw (ne_eqb n 0 (numbered n refl))
-told_plan (Planned hints times sweeps ps) numbered few =
+told_plan (Refused why) few = rw (not_nought why)
+told_plan (Planned hints times sweeps ps) few =
     rw (fits_few (length ps) (length (all_actions ps)) (few hints times sweeps ps refl)) (by (leb (length (all_actions ps)) 1600))
   where
     by : (b : Bool) →
         told_answer (cond b 0 12) (cond b (filled (head_rows hints times sweeps ps) 1160) (replicate 1160 0))
         (cond b (filled (action_rows (all_actions ps)) 6400) (replicate 6400 0)) ≡
-        plan_reply (cond b (Planned hints times sweeps ps) (Refused 12))
+        plan_reply (cond b (Planned hints times sweeps ps) (Refused Refusals.NoRoom))
     by true = ap Gives (lines_told hints times sweeps ps _ _)
     by false = refl
 
@@ -78,12 +82,12 @@ told_stream s long longActions h =
     let number = rw (long, longActions) at h.number in
     let room = rw (long, longActions) at h.room in
     let actionRoom = rw (long, longActions) at h.actions in
-    rw (number, room, actionRoom) (sym (told_plan (stream_plan s) (numbered s) (few s)))
+    rw (number, room, actionRoom) (sym (told_plan (stream_plan s) (few s)))
 
 -- A reply refuses by the number that the plan's call hands back, which is not 0.
 refused_number : (s : List ℕ) (n : ℕ) → stream_reply s ≡ Refuses n → (plan_number (stream_plan s) 1160 6400 ≡ n) × (n ≢ 0)
 unfolding stream_reply
-refused_number s n e = by (eqb number 0) refl (told_plan plan (numbered s) (few s) ∙ e)
+refused_number s n e = by (eqb number 0) refl (told_plan plan (few s) ∙ e)
   where
     plan : Plan
     plan = stream_plan s
@@ -112,14 +116,16 @@ pub reply_numbered : (s : List ℕ) (n : ℕ) → stream_reply s ≡ Refuses n �
 reply_numbered s n e = (refused_number s n e).1
 
 -- Each has a number of a plan's list, or 12 where there are too many actions (RULES D1, 14.18).
-pub reply_refused : (s : List ℕ) (n : ℕ) → stream_reply s ≡ Refuses n → PlanRefusal n ⊎ (n ≡ 12)
+pub reply_refused : (s : List ℕ) (n : ℕ) → stream_reply s ≡ Refuses n →
+    ((why : Refusal) × (PlanRefusal why × (refusal_number why ≡ n))) ⊎ (n ≡ 12)
 unfolding plan_number
 reply_refused s n e = by (stream_plan s) refl (refused_number s n e).0
   where
-    by_room : (b : Bool) → cond b 0 12 ≡ n → PlanRefusal n ⊎ (n ≡ 12)
+    by_room : (b : Bool) → cond b 0 12 ≡ n → ((why : Refusal) × (PlanRefusal why × (refusal_number why ≡ n))) ⊎ (n ≡ 12)
     by_room true h = absurd (reply_numbered s n e (sym h))
     by_room false h = inr (sym h)
 
-    by : (p : Plan) → stream_plan s ≡ p → plan_number p 1160 6400 ≡ n → PlanRefusal n ⊎ (n ≡ 12)
-    by (Refused m) known h = inl (stream_refused s n (known ∙ ap Refused h))
+    by : (p : Plan) → stream_plan s ≡ p → plan_number p 1160 6400 ≡ n →
+        ((why : Refusal) × (PlanRefusal why × (refusal_number why ≡ n))) ⊎ (n ≡ 12)
+    by (Refused why) known h = inl (why, (stream_refused s why known, h))
     by (Planned hints times sweeps ps) known h = by_room (both_hold 1160 6400 (1 + length ps) (length (all_actions ps))) h

@@ -18,6 +18,7 @@ use Rattle.reply_lines.specs.Lines.{ok_line, path_line, printed}
 use Rattle.reply_lines.specs.Shown.{is_shown}
 use Rattle.reply_lines.proofs.Shown.{Shown, both, ok_shown, path_shown, move_shown, wait_shown, refused_shown}
 use Rattle.reply.specs.Text.{action_text, actions_text, path_text, paths_text, plan_reply, roomed, stream_reply, stream_text}
+use Rattle.refusals.specs.Names.{refusal_number}
 
 action_shown : (a : SafeAction) → Shown (action_text a)
 unfolding action_text
@@ -45,7 +46,7 @@ plan_shown : (p : Plan) → Shown (printed (plan_reply p))
 unfolding plan_reply printed
 plan_shown (Planned hints times sweeps ps) =
     both (ok_line hints times sweeps (length ps)) (paths_text ps) (ok_shown hints times sweeps (length ps)) (paths_shown ps)
-plan_shown (Refused n) = refused_shown n
+plan_shown (Refused why) = refused_shown (refusal_number why)
 
 pub printed_shown : (s : List ℕ) → every is_shown (stream_text s) ≡ true
 unfolding stream_text stream_reply

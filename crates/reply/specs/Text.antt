@@ -11,6 +11,8 @@ use Rattle.path_actions.specs.declared.action.SafeAction.{SafeAction}
 use Rattle.path_actions.specs.declared.action.SafeAction.TheVariants.{Move, Wait}
 use Rattle.request_reader.specs.Asked.{stream_plan}
 use Rattle.reply_lines.specs.Lines.{ok_line, path_line, move_line, wait_line, printed}
+use Rattle.refusals.specs.declared.Refusal.TheVariants as Refusals
+use Rattle.refusals.specs.Names.{refusal_number}
 
 -- The line of an action (RULES 15.3, 15.4).
 unfoldable pub action_text : SafeAction → List ℕ
@@ -32,12 +34,12 @@ paths_text (p ∷ ps) = path_text p ++ paths_text ps
 -- First the counts, then the paths in order of arrival (RULES 15.1, 15.6); of a refusal its number alone (RULES 4.14).
 unfoldable pub plan_reply : Plan → Outcome
 plan_reply (Planned hints times sweeps ps) = Gives (ok_line hints times sweeps (length ps) ++ paths_text ps)
-plan_reply (Refused n) = Refuses n
+plan_reply (Refused n) = Refuses (refusal_number n)
 
 -- There is room for 1,600 actions over all paths, and for everything else; past it the answer is 12 (RULES 14.18).
 unfoldable pub roomed : Plan → Plan
 roomed (Planned hints times sweeps ps) =
-    cond (leb (length (all_actions ps)) 1600) (Planned hints times sweeps ps) (Refused NO_ROOM)
+    cond (leb (length (all_actions ps)) 1600) (Planned hints times sweeps ps) (Refused Refusals.NoRoom)
 roomed (Refused n) = Refused n
 
 -- The reply to a stream: a text, or the number of a refusal.

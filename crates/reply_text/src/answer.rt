@@ -14,30 +14,21 @@ use texts::room::Told;
 fn word_at(room: &[u64], i: usize) -> u64
     ensures { result ≡ get_or room.now i 0 }
 {
-    if i < room.len() {
-        return room[i];
-    }
-    0
+    room.get(i).copied().unwrap_or(0)
 }
 
 // Where n rows from row `from` on end, as far as the room has rows.
 fn rows_end(room: &[u64], from: usize, n: u64) -> usize
     ensures { result ≡ min (from + n) (length room.now / 4) }
 {
-    let rows = room.len() / 4;
-    if rows <= from {
-        return rows;
-    }
-    if n < (rows - from) as u64 {
-        return from + n as usize;
-    }
-    rows
+    from.saturating_add(n as usize).min(room.len() / 4)
 }
 
 // What the row of a move begins with.
 const MOVE: u64 = 1;
 
 // Puts the line of the action in row i.
+#[tactic(auto, unfolding(crate::specs::Answer::row_at, crate::specs::Answer::action_line))]
 fn put_action(out: &mut [u8], at: usize, actions: &[u64], i: usize) -> usize
     requires { i < length actions.now / 4 }
     ensures { PutText (action_line (row_at actions.now i)) out.old at out.new result }
@@ -60,15 +51,14 @@ fn put_actions(out: &mut [u8], at: usize, actions: &[u64], from: usize, to: usiz
     ensures { PutText (action_lines (listed_to (row_at actions.now) to from)) out.old at out.new result }
 {
     let mut next = at;
-    let mut i = from;
-    while i < to {
+    for i in from..to {
         next = put_action(out, next, actions, i);
-        i += 1;
     }
     next
 }
 
 // Puts the lines of the paths in the rows from 1 up to `end`, each with those of its actions.
+#[tactic(auto, using(texts::proofs::Putting::put_within))]
 fn put_paths(out: &mut [u8], at: usize, paths: &[u64], end: usize, actions: &[u64]) -> usize
     requires { (end ≤ length paths.now / 4) × (at ≤ length out.old + 1) }
     ensures { PutText (path_lines (listed_to (row_at paths.now) end 1) (rows_of actions.now)) out.old at
@@ -76,18 +66,17 @@ fn put_paths(out: &mut [u8], at: usize, paths: &[u64], end: usize, actions: &[u6
 {
     let mut next = at;
     let mut from = 0;
-    let mut i = 1;
-    while i < end {
+    for i in 1..end {
         next = line::put_path(out, next, paths[4 * i], paths[4 * i + 1], paths[4 * i + 2]);
         let to = rows_end(actions, from, paths[4 * i + 3]);
         next = put_actions(out, next, actions, from, to);
         from = to;
-        i += 1;
     }
     next
 }
 
 // Puts the lines of a plan.
+#[tactic(auto, using(texts::proofs::Putting::put_within))]
 fn put_plan(out: &mut [u8], paths: &[u64], actions: &[u64]) -> usize
     ensures { PutText (plan_lines paths.now actions.now) out.old 0 out.new result }
 {
@@ -104,6 +93,7 @@ fn put_plan(out: &mut [u8], paths: &[u64], actions: &[u64]) -> usize
 }
 
 // The text of a plan's rows. Each line takes at most 87 bytes.
+#[tactic(auto, using(crate::proofs::Sizes::plan_short))]
 pub fn put_answer(paths: &[u64], actions: &[u64], out: &mut [u8]) -> Told
     ensures tells { Tells (Gives (plan_lines paths.now actions.now)) out.old out.new result }
     ensures actions_len_bound { length (plan_lines paths.now actions.now) ≤ 87 *

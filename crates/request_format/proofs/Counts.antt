@@ -76,3 +76,6 @@ too_many os h = rw (lt-leb (length os) 32 h)
 pub few_bits : (os : List StreamObstacle) → are_counted os ≡ true → request_bits os ≤ 60_000
 unfolding request_bits
 few_bits os h = omega (arith, (counts os h).0, (counts os h).1, bits_at_most os)
+
+-- How many obstacles are read, and what so many take.
+pub ruleset counts_told = (length_obstacles, too_many, few_bits)

@@ -44,3 +44,8 @@ number_more s at n = rw add-one
 pub number_room : (s : List ℕ) (at n : ℕ) → n < 64 → 2 * number_at s at n + 1 < 2 ^ 64
 number_room s at n h =
     let most : 2 ^ n ≤ 2 ^ 63 = pow_mono {i = n} {j = 63} (omega arith) in omega (arith, number_lt s at n)
+
+-- What a bit of a stream is, and what a number with one more of them.
+pub ruleset bits_told = (bit_from, bit_past, byte_of)
+
+pub ruleset numbers_told = (number_room, bit_lt, number_more)

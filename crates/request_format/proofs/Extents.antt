@@ -1,9 +1,10 @@
 -- How the bits and legs of obstacles are counted from the front: what is found from here on is what is found of all.
 -- Assumes nothing.
 use Prim.Native.Nat.{ℕ, ◌+◌, ◌-◌, ◌*◌, ◌≤◌, ◌<◌}
+use Rattle.std.proofs.Common.{Option, Some, None}
 use mathlib.Core.Path.{◌≡◌, refl, sym, ap, ◌∙◌}
-use mathlib.Core.Bool.{Bool, true, false, not, ◌&&◌, cond, and-false, true≢false, false≢true}
-use mathlib.Core.List.{List, [], ◌∷◌}
+use mathlib.Core.Bool.{Bool, true, false, not, ◌&&◌, cond, and-false}
+use mathlib.Core.List.{List, ◌∷◌}
 use native.Mathlib.Omega.{arith}
 use borrow.Author.Tests.{le-leb, lt-leb, eq-eqb, ne_eqb}
 use lib.Dec.{leb, eqb}
@@ -13,39 +14,36 @@ use Rattle.request_format.specs.Request.{StreamObstacle}
 use Rattle.request_format.specs.Bits.{number_at}
 use Rattle.request_format.specs.Format.{obstacle_at, obstacles_at, bits_in_all, legs_counted, are_counted, request_bits}
 use Rattle.request_format.specs.Measured.{extent_of}
-use Rattle.request_format.specs.declared.format.Extent.{Extent}
-use Rattle.request_format.specs.declared.format.Extent.TheVariants.{Bits, Uncounted}
-use Rattle.request_format.proofs.Counts.{length_own, obstacles_next}
+pub use Rattle.request_format.proofs.Counts.{counts_told}
+use Rattle.request_format.proofs.Counts.{length_own, length_obstacles, obstacles_next, obstacles_done}
 
 -- What is found where bit `at` is reached and so many legs are counted already.
-unfoldable pub extent_from : ℕ → ℕ → List StreamObstacle → Extent
+unfoldable pub extent_from : ℕ → ℕ → List StreamObstacle → Option ℕ
 extent_from at legs os =
     cond
     (leb (legs + legs_counted os) 256 && every (λ o. not (eqb (length o.points) 1)) os)
-    (Bits (at + bits_in_all os))
-    Uncounted
+    (Some (at + bits_in_all os))
+    None
 
-pub extent_whole : (os : List StreamObstacle) → length os ≤ 32 → extent_from 510 0 os ≡ extent_of os
+pub begun : (s : List ℕ) (n : ℕ) → n ≤ 32 → extent_from 510 0 (obstacles_at s 510 (n - 0)) ≡ extent_of (obstacles_at s 510 n)
 unfolding extent_from extent_of are_counted request_bits
-extent_whole os few =
-    let none : 0 + legs_counted os ≡ legs_counted os = omega arith in rw (none, le-leb (length os) 32 few)
+begun s n few =
+    let os = obstacles_at s 510 n in
+    let all : n - 0 ≡ n = omega arith in
+    let none : 0 + legs_counted os ≡ legs_counted os = omega arith in
+    rw (all, none, le-leb (length os) 32 (omega (arith, length_obstacles s 510 n)))
 
-pub extent_done : (at legs : ℕ) → legs ≤ 256 → extent_from at legs [] ≡ Bits at
-unfolding extent_from legs_counted bits_in_all every
-extent_done at legs h =
-    let bits : at + 0 ≡ at = omega arith in rw (le-leb (legs + 0) 256 (omega arith), bits)
-
-pub extent_single : (at legs : ℕ) (o : StreamObstacle) (os : List StreamObstacle) →
-    length o.points ≡ 1 → extent_from at legs (o ∷ os) ≡ Uncounted
+extent_single : (at legs : ℕ) (o : StreamObstacle) (os : List StreamObstacle) →
+    length o.points ≡ 1 → extent_from at legs (o ∷ os) ≡ None
 unfolding extent_from every
 extent_single at legs o os h = rw (eq-eqb (length o.points) 1 h, and-false)
 
-pub extent_many : (at legs : ℕ) (o : StreamObstacle) (os : List StreamObstacle) →
-    256 < legs + (length o.points - 1) → extent_from at legs (o ∷ os) ≡ Uncounted
+extent_many : (at legs : ℕ) (o : StreamObstacle) (os : List StreamObstacle) →
+    256 < legs + (length o.points - 1) → extent_from at legs (o ∷ os) ≡ None
 unfolding extent_from legs_counted
 extent_many at legs o os h = rw (lt-leb (legs + ((length o.points - 1) + legs_counted os)) 256 (omega arith))
 
-pub extent_next : (at legs : ℕ) (o : StreamObstacle) (os : List StreamObstacle) → (length o.points ≡ 1 → ⊥) →
+extent_next : (at legs : ℕ) (o : StreamObstacle) (os : List StreamObstacle) → (length o.points ≡ 1 → ⊥) →
     extent_from at legs (o ∷ os) ≡ extent_from (at + (201 + 178 * length o.points)) (legs + (length o.points - 1)) os
 unfolding extent_from every legs_counted bits_in_all
 extent_next at legs o os h =
@@ -54,53 +52,65 @@ extent_next at legs o os h =
     let reached : at + ((201 + 178 * p) + bits_in_all os) ≡ at + (201 + 178 * p) + bits_in_all os = omega arith in
     rw (ne_eqb p 1 h, counted, reached)
 
--- ---- The obstacles of a stream that are left after o of them: p is the count of waypoints of the first.
+-- ---- The obstacles of a stream that are left after o of them, by the count of waypoints of the first.
 
-module _ (s : List ℕ) (at legs end o p : ℕ) (left : o < end) (count : p ≡ number_at s (at + 192) 9) where
-  abbrev rest : List StreamObstacle
-  rest = obstacles_at s (at + (201 + 178 * p)) (end - (o + 1))
+module _ (s : List ℕ) (at legs end o : ℕ) (left : o < end) where
+  abbrev points : ℕ
+  points = number_at s (at + 192) 9
 
-  own : length (obstacle_at s at).points ≡ p
-  own = length_own s at ∙ sym count
+  pub single : points ≡ 1 → extent_from at legs (obstacles_at s at (end - o)) ≡ None
+  single one =
+      rw (obstacles_next s at end o points left refl)
+      (extent_single at legs (obstacle_at s at) _ (length_own s at ∙ one))
 
-  pub single : p ≡ 1 → extent_from at legs (obstacles_at s at (end - o)) ≡ Uncounted
-  single one = rw (obstacles_next s at end o p left count) (extent_single at legs (obstacle_at s at) rest (own ∙ one))
+  pub many : 256 < legs + (points - 1) → extent_from at legs (obstacles_at s at (end - o)) ≡ None
+  many h =
+      rw (obstacles_next s at end o points left refl)
+      (extent_many at legs (obstacle_at s at) _ (omega (arith, length_own s at)))
 
-  pub many : (more : ℕ) → more ≡ p - 1 → 256 < legs + more → extent_from at legs (obstacles_at s at (end - o)) ≡ Uncounted
-  many more e h =
-      rw (obstacles_next s at end o p left count) (extent_many at legs (obstacle_at s at) rest (omega (arith, own)))
-
-  pub next : (more : ℕ) → more ≡ p - 1 → (p ≡ 1 → ⊥) →
+  pub next : (points ≡ 1 → ⊥) →
       extent_from at legs (obstacles_at s at (end - o)) ≡
-      extent_from (at + (201 + 178 * p)) (legs + more) (obstacles_at s (at + (201 + 178 * p)) (end - (o + 1)))
-  next more e h =
-      rw (obstacles_next s at end o p left count, e)
-      (extent_next at legs (obstacle_at s at) rest (λ one. h (sym own ∙ one)) ∙
-      ap (λ (k : ℕ). extent_from (at + (201 + 178 * k)) (legs + (k - 1)) rest) own)
+      extent_from (at + (201 + 178 * points)) (legs + (points - 1)) (obstacles_at s (at + (201 + 178 * points)) (end - (o + 1)))
+  next h =
+      let rest = obstacles_at s (at + (201 + 178 * points)) (end - (o + 1)) in
+      rw (obstacles_next s at end o points left refl)
+      (extent_next at legs (obstacle_at s at) rest (λ one. h (sym (length_own s at) ∙ one)) ∙
+      ap (λ (k : ℕ). extent_from (at + (201 + 178 * k)) (legs + (k - 1)) rest) (length_own s at))
+
+pub ended : (s : List ℕ) (at legs end o : ℕ) → end ≤ o → legs ≤ 256 → extent_from at legs (obstacles_at s at (end - o)) ≡ Some at
+unfolding extent_from legs_counted bits_in_all every
+ended s at legs end o done few =
+    let bits : at + 0 ≡ at = omega arith in
+    rw (obstacles_done s at end o done) (rw (le-leb (legs + 0) 256 (omega arith), bits))
+
+-- How the counting begins, goes on and ends.
+pub ruleset counting = (begun, single, many, next, ended)
 
 -- ---- Which answer tells of which counts.
 
-abbrev is_given : Extent → Bool
-is_given (Bits b) = true
-is_given Uncounted = false
-
-abbrev given : Extent → ℕ
-given (Bits b) = b
-given Uncounted = 0
-
-pub extent_given : (os : List StreamObstacle) (b : ℕ) → extent_of os ≡ Bits b → (are_counted os ≡ true) × (b ≡ request_bits os)
+pub extent_counted : (os : List StreamObstacle) (b : ℕ) → extent_of os ≡ Some b → are_counted os ≡ true
 unfolding extent_of
-extent_given os b = by (are_counted os) refl
+extent_counted os b = by (are_counted os) refl
   where
-    by : (t : Bool) → are_counted os ≡ t →
-        cond t (Bits (request_bits os)) Uncounted ≡ Bits b → (are_counted os ≡ true) × (b ≡ request_bits os)
-    by true h e = (h, sym (ap given e))
-    by false h e = absurd (false≢true (ap is_given e))
+    by : (t : Bool) → are_counted os ≡ t → cond t (Some (request_bits os)) None ≡ Some b → are_counted os ≡ true
+    by true h e = h
+    by false h e = absurd (cc)
 
-pub extent_none : (os : List StreamObstacle) → extent_of os ≡ Uncounted → are_counted os ≡ false
+pub extent_bits : (os : List StreamObstacle) (b : ℕ) → extent_of os ≡ Some b → request_bits os ≡ b
+unfolding extent_of
+extent_bits os b = by (are_counted os)
+  where
+    by : (t : Bool) → cond t (Some (request_bits os)) None ≡ Some b → request_bits os ≡ b
+    by true e = cc
+    by false e = absurd (cc)
+
+pub extent_none : (os : List StreamObstacle) → extent_of os ≡ None → are_counted os ≡ false
 unfolding extent_of
 extent_none os = by (are_counted os) refl
   where
-    by : (t : Bool) → are_counted os ≡ t → cond t (Bits (request_bits os)) Uncounted ≡ Uncounted → are_counted os ≡ false
-    by true h e = absurd (true≢false (ap is_given e))
+    by : (t : Bool) → are_counted os ≡ t → cond t (Some (request_bits os)) None ≡ None → are_counted os ≡ false
+    by true h e = absurd (cc)
     by false h e = h
+
+-- What the counts, and an extent that was found or was not, tell of a request.
+pub ruleset told = (extent_counted, extent_bits, extent_none, counts_told)

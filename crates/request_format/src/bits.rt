@@ -4,6 +4,7 @@ ghost use Rattle.request_format.specs.Bits.{bit_at, number_at};
 
 // Bit k of those from `at` on. Bytes are counted from that of `at`, since `at + k` may not fit a word. Past the end
 // every bit is 0.
+#[tactic(auto, using(crate::proofs::Digits::bits_told))]
 fn bit_at(s: &[u8], at: usize, k: usize) -> u64
     requires { k ≤ 64 }
     ensures { result ≡ bit_at s.now (at + k) }
@@ -16,26 +17,14 @@ fn bit_at(s: &[u8], at: usize, k: usize) -> u64
     0
 }
 
-// A number has at most 64 bits.
-fn width_of(n: usize) -> usize
-    ensures { result ≡ min n 64 }
-{
-    if n < 64 {
-        return n;
-    }
-    64
-}
-
 // The number of the n bits from `at` on, or of the first 64 where n is more.
+#[tactic(auto, using(crate::proofs::Digits::numbers_told), unfolding(crate::specs::Bits::number_at))]
 pub fn number_at(s: &[u8], at: usize, n: usize) -> u64
     ensures { result ≡ number_at s.now at (min n 64) }
 {
-    let width = width_of(n);
     let mut v = 0;
-    let mut k = 0;
-    while k < width {
+    for k in 0..n.min(64) {
         v = 2 * v + bit_at(s, at, k);
-        k += 1;
     }
     v
 }

@@ -9,7 +9,6 @@ use lib.Dec.{leb, eqb}
 use lib.ListN.{length, length-map}
 use Rattle.lent.specs.Listed.{every}
 use Rattle.shapes.specs.Leg.{is_rising}
-use Rattle.domain.specs.declared.limits.Examined.TheVariants.{Refused}
 use Rattle.shapes.specs.declared.profile.CircularProfile.{CircularProfile}
 use Rattle.shapes.specs.declared.waypoint.Leg.{Leg}
 use Rattle.shapes.specs.declared.waypoint.Waypoint.{Waypoint}
@@ -24,6 +23,9 @@ use Rattle.request_format.specs.Format.{legs_counted, are_counted}
 use Rattle.request_reader.specs.Table.{request_waypoint, obstacle_of, table_of}
 use Rattle.request_reader.proofs.Laid.{table_laid}
 use Rattle.request_reader.proofs.TableOf.{table_obstacles}
+use Rattle.std.specs.Prelude.{Result, Ok, Err}
+use Rattle.refusals.specs.declared.Refusal.{Refusal}
+use Rattle.refusals.specs.declared.Refusal.TheVariants as Refusals
 
 -- An obstacle with no waypoint or two and more.
 abbrev pub is_not_single : O.Obstacle → Bool
@@ -86,6 +88,6 @@ table_shaped os =
 
 -- So a request that is refused for its counts is refused 2 by the table's examination too, whatever the agent.
 pub uncounted_refused : (p : CircularProfile) (agent : Leg) (os : List StreamObstacle) →
-    are_counted os ≡ false → agent_examined p agent (table_of os) ≡ Refused 2
+    are_counted os ≡ false → agent_examined p agent (table_of os) ≡ Err Refusals.Shape
 unfolding agent_examined table_examined
 uncounted_refused p agent os e = rw (table_laid os, table_shaped os, e)

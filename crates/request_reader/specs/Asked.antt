@@ -7,6 +7,7 @@ use Rattle.plan_model.specs.Plan.{Plan, Refused}
 use Rattle.request_format.specs.Request.{Request, Reading, Of, Malformed}
 use Rattle.request_format.specs.Format.{read_of}
 use Rattle.request_reader.specs.Table.{request_profile, request_leg, table_of}
+use Rattle.refusals.specs.declared.Refusal.TheVariants as Refusals
 
 -- The plan for a request.
 unfoldable pub request_plan : Request → Plan
@@ -18,4 +19,4 @@ stream_plan s = by (read_of s)
   where
     by : Reading → Plan
     by (Of r) = request_plan r
-    by Malformed = Refused SHAPE
+    by Malformed = Refused Refusals.Shape

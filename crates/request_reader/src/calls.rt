@@ -8,6 +8,7 @@ ghost use Rattle.request_reader.specs.Asked.{request_plan, stream_plan};
 use crate::{fields, reading};
 use lent::words;
 use plan_making::calls;
+use refusals::Refusal;
 use request_format::{bits, format};
 use table_packing::boxes;
 
@@ -35,13 +36,14 @@ fn plan_request(s: &[u8], paths: &mut [u64], actions: &mut [u64]) -> u64
 }
 
 // Counts and paths in one room, the actions of all paths in the other. A malformed stream is refused 2.
+#[tactic(auto, unfolding(crate::specs::Asked::stream_plan, request_format::specs::Format::read_of))]
 pub fn plan(s: &[u8], paths: &mut [u64], actions: &mut [u64]) -> u64
     ensures { PlanHanded (stream_plan s.now) paths.old paths.new actions.old
         actions.new result }
 {
     if !format::is_request(s) {
-        words::refuse(paths, refusals::SHAPE);
-        return words::refuse(actions, refusals::SHAPE);
+        words::refuse(paths, u64::from(Refusal::Shape));
+        return words::refuse(actions, u64::from(Refusal::Shape));
     }
     plan_request(s, paths, actions)
 }

@@ -29,6 +29,7 @@ fn profile_at(s: &[u8], at: usize) -> CircularProfile
 }
 
 // A time of 50 bits and a place.
+#[tactic(auto, using(request_format::proofs::Digits::number_lt), unfolding(request_format::specs::Format::point_at))]
 pub(crate) fn waypoint_at(s: &[u8], at: usize) -> Waypoint
     requires { at ≤ 500_000 }
     ensures { result ≡ request_waypoint (point_at s.now at) }
@@ -42,6 +43,7 @@ pub(crate) fn waypoint_at(s: &[u8], at: usize) -> Waypoint
 }
 
 // The agent's profile.
+#[tactic(auto, unfolding(request_format::specs::Format::request_at))]
 pub(crate) fn profile_of(s: &[u8]) -> CircularProfile
     ensures { result ≡ request_profile (request_at s.now).footprint (request_at s.now).follow }
 {
@@ -49,6 +51,7 @@ pub(crate) fn profile_of(s: &[u8]) -> CircularProfile
 }
 
 // The agent's way.
+#[tactic(auto, unfolding(request_format::specs::Format::request_at, crate::specs::Table::request_leg))]
 pub(crate) fn leg_of(s: &[u8]) -> Leg
     ensures { result ≡ request_leg (request_at s.now) }
 {

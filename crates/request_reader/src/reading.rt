@@ -24,11 +24,9 @@ fn put_points(
     ensures { PutPoints (points_at s.now at n) from marks.old marks.new places.old
         places.new }
 {
-    let mut i = 0;
-    while i < n {
+    for i in 0..n {
         let w = fields::waypoint_at(s, at + 178 * i);
         filling::put_waypoint(marks, places, from + i, w);
-        i += 1;
     }
 }
 
@@ -47,6 +45,7 @@ fn put_numbers(s: &[u8], at: usize, o: usize, places: &mut [f64; 800])
 }
 
 // Reads obstacles whose counts are those of the table into one that is zero throughout.
+#[tactic(auto, using(request_format::proofs::Counts::counts_told, crate::proofs::Counts::points_told))]
 pub(crate) fn put_obstacles(
     s: &[u8],
     obstacles: usize,
@@ -60,14 +59,12 @@ pub(crate) fn put_obstacles(
     filling::put_count(marks, obstacles);
     let mut at = 510;
     let mut from = 0;
-    let mut o = 0;
-    while o < obstacles {
+    for o in 0..obstacles {
         let points = bits::number_at(s, at + 192, 9) as usize;
         filling::put_ends(marks, o, from, from + points);
         put_numbers(s, at, o, places);
         put_points(s, at + 201, points, from, marks, places);
         from += points;
         at += 201 + 178 * points;
-        o += 1;
     }
 }

@@ -12,9 +12,9 @@ use lib.Ieee.Scale.{finite}
 use Rattle.floats.specs.Constants.{nought}
 use Rattle.floats.proofs.Monotone.{nonneg_under}
 use Rattle.root.specs.Root.{root_of}
-use Rattle.root.specs.declared.nearest.Root.TheVariants.{Of}
+use Rattle.std.specs.Prelude.{Ok}
 
-pub root_given : (x : Float) → T (finite x) → T (le nought x) → (y : Float) × (root_of x ≡ Of y)
+pub root_given : (x : Float) → T (finite x) → T (le nought x) → (y : Float) × (root_of x ≡ Ok y)
 unfolding root_of
 root_given nan f h = absurd f
 root_given (inf s) f h = absurd f

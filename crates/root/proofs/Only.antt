@@ -7,10 +7,10 @@ use native.Mathlib.Nat as N
 use native.Mathlib.Omega.{arith}
 use lib.Ieee.{Float, nan, inf, fin}
 use Rattle.root.specs.Root.{least_units, gap_above, gap_below, Encloses, Rounded, IsRoot}
-use Rattle.root.specs.declared.nearest.Root.{Root}
-use Rattle.root.specs.declared.nearest.Root.TheVariants.{Of}
 use Rattle.root.proofs.Units.{Short, above, same_double}
 use Rattle.root.proofs.Neighbours.{next_above, next_below}
+use Rattle.std.specs.Prelude.{Result, Ok}
+use Rattle.root.specs.declared.nearest.NoRoot.{NoRoot}
 
 -- The midpoint above the smaller is at most the one below the larger, and no X lies both below and above.
 not_both : (X y z : ℕ) → Short y → Short z → Encloses X y → Encloses X z → y < z → ⊥
@@ -32,10 +32,10 @@ one_rounded x y z r s =
     same_double y z r.held s.held r.above_zero s.above_zero
     (one_enclosed (least_units x) (least_units y) (least_units z) Y.short Z.short r.nearest s.nearest)
 
-pub only : (x : Float) (r s : Root) → IsRoot x r → IsRoot x s → r ≡ s
+pub only : (x : Float) (r s : Result Float NoRoot) → IsRoot x r → IsRoot x s → r ≡ s
 unfolding IsRoot
 only nan r s p q = p ∙ sym q
 only (inf t) r s p q = p ∙ sym q
 only (fin t zero e) r s p q = p ∙ sym q
 only (fin true (suc m) e) r s p q = p ∙ sym q
-only (fin false (suc m) e) r s p q = p.1 ∙ ap Of (one_rounded (fin false (suc m) e) p.0 q.0 p.2 q.2) ∙ sym q.1
+only (fin false (suc m) e) r s p q = p.1 ∙ ap Ok (one_rounded (fin false (suc m) e) p.0 q.0 p.2 q.2) ∙ sym q.1

@@ -20,20 +20,20 @@ use Rattle.floats.proofs.Signs.{positive_not_below, zero_not_below, zero_not_abo
 use Rattle.floats.proofs.Bounds.{within_of_upper}
 use Rattle.floats.proofs.Powers.{pow2}
 use Rattle.root.specs.Digits.{square}
-use Rattle.root.specs.Root.{least_units, Rounded, IsRoot}
-use Rattle.root.specs.declared.nearest.Root.TheVariants.{Of, Refused}
+use Rattle.root.specs.Root.{least_units, Rounded, IsRoot, no_root}
 use Rattle.root.proofs.Units.{above}
 use Rattle.root.proofs.Nearness.{nearer_than_smaller}
+use Rattle.std.specs.Prelude.{Ok}
 
 -- The two ways to a root: a zero is its own, and a double above zero has the rounded one.
 data Way : Float → Float → Type 0 where
   itself : {s : Bool} {e : ℤ} → Way (fin s zero e) (fin s zero e)
   rounded : {x y : Float} → T (positive x) → Rounded x y → Way x y
 
-not_refused : (y : Float) → Of y ≡ Refused → ⊥
+not_refused : (y : Float) → Ok y ≡ no_root → ⊥
 not_refused y e = let z : ◌≡◌ {A = ℕ} 0 1 = cc in omega arith
 
-way : (x y : Float) → IsRoot x (Of y) → Way x y
+way : (x y : Float) → IsRoot x (Ok y) → Way x y
 unfolding IsRoot
 way nan y r = absurd (not_refused y r)
 way (inf s) y r = absurd (not_refused y r)
@@ -49,7 +49,7 @@ pub record Fine (y : Float) : Type 0 where
   pub is_finite_law : T (finite y)
   pub not_below : T (le nought y)
 
-pub root_fine : (x y : Float) → IsRoot x (Of y) → Fine y
+pub root_fine : (x y : Float) → IsRoot x (Ok y) → Fine y
 root_fine x y r = by (way x y r)
   where
     by : {x y : Float} → Way x y → Fine y
@@ -78,7 +78,7 @@ units_at_most x y z r f p h = by (dec_le (least_units y) (least_units z))
         absurd (N.not-le_of_lt (nearer_than_smaller x y z r f p l) (fours (least_units x * 2 ^ 1074) (least_units z) (least_units y) h (N.le_of_lt l)))
 
 pub root_at_most : (x y z : Float) →
-    IsRoot x (Of y) → T (fits binary64 z) → T (positive z) → least_units x * 2 ^ 1074 ≤ square (least_units z) → T (le y z)
+    IsRoot x (Ok y) → T (fits binary64 z) → T (positive z) → least_units x * 2 ^ 1074 ≤ square (least_units z) → T (le y z)
 root_at_most x y z r f p h = by (way x y r) h
   where
     by : {x y : Float} → Way x y → least_units x * 2 ^ 1074 ≤ square (least_units z) → T (le y z)
@@ -93,7 +93,7 @@ pow2_units : (i : ℕ) → least_units (pow2 i) ≡ 2 ^ i * 2 ^ 1074
 unfolding least_units
 pow2_units i = rw (N.div-one, N.one-mul)
 
-units_under : (n : ℕ) (x y : Float) → IsRoot x (Of y) → T (le x (pow2 n)) → least_units x ≤ 2 ^ n * 2 ^ 1074
+units_under : (n : ℕ) (x y : Float) → IsRoot x (Ok y) → T (le x (pow2 n)) → least_units x ≤ 2 ^ n * 2 ^ 1074
 unfolding least_units
 units_under n x y r h = by (way x y r) h
   where
@@ -104,7 +104,7 @@ units_under n x y r h = by (way x y r) h
     by (itself {s} {e}) h = rw (N.zero-mul (up e), N.zero-mul (2 ^ 1074), N.zero-div (down e)) zero-le
     by (rounded {x} p k) h = N.div-le_of_le-mul (den x) (scaled (num x) (den x) (2 ^ n) (2 ^ 1074) (le→cross x (pow2 n) p tt h))
 
-pub root_within : (i : ℕ) (x y : Float) → i ≤ 1023 → IsRoot x (Of y) → T (le x (pow2 (i + i))) → Within (pow2 i) y
+pub root_within : (i : ℕ) (x y : Float) → i ≤ 1023 → IsRoot x (Ok y) → T (le x (pow2 (i + i))) → Within (pow2 i) y
 root_within i x y l r h =
     let under : least_units x * 2 ^ 1074 ≤ 2 ^ (i + i) * 2 ^ 1074 * 2 ^ 1074 = N.mul-le-mul_right (2 ^ 1074) (units_under (i + i) x y r h) in
     let is : 2 ^ (i + i) * 2 ^ 1074 * 2 ^ 1074 ≡ square (least_units (pow2 i)) = rw (pow2_units i, pow-add 2 i i) (squared (2 ^ i) (2 ^ 1074)) in

@@ -3,16 +3,23 @@
 ghost use Rattle.std.specs.Prelude.{◌≡◌, ◌+◌, ◌*◌, ◌/◌, ◌^◌, ◌≤◌, ◌<◌};
 ghost use Rattle.std.specs.Float.{binary64};
 ghost use Rattle.std.specs.Float.Ieee.{of_bits};
+ghost use Rattle.refusals.specs.declared.Refusal.TheVariants.{Number};
 ghost use Rattle.root.specs.Digits.{whole_root, Spells, root_pattern};
 ghost use Rattle.root.specs.Root.{least_units, IsRoot, root_of};
 
 use crate::{guess, trial};
+use refusals::Refusal;
 
-// The root, or refusal 1.
-#[derive(Clone, Copy)]
-pub enum Root {
-    Of(f64),
-    Refused,
+// There is no root: refusal 1.
+#[derive(Clone, Copy, Debug, PartialEq, Eq)]
+pub struct NoRoot;
+
+impl From<NoRoot> for Refusal {
+    ghost from_gives = { λ _ e. e ≡ Number };
+
+    fn from(_e: NoRoot) -> Refusal {
+        Refusal::Number
+    }
 }
 
 // 2^52, the first of the 53 digits that a double keeps.
@@ -36,16 +43,14 @@ fn whole_root(a: u64) -> u64
     let mut rest = a;
     let mut r: u64 = 0;
     let mut over: u64 = 0;
-    let mut i: u64 = 0;
-    while i < 54 {
+    for _ in 0..54_u64 {
         over = over * 4 + rest / FIRST_DIGIT;
         rest = rest % FIRST_DIGIT * 4;
-        r = r * 2;
+        r *= 2;
         if r * 2 < over {
-            over = over - (r * 2 + 1);
-            r = r + 1;
+            over -= r * 2 + 1;
+            r += 1;
         }
-        i += 1;
     }
     r
 }
@@ -65,8 +70,8 @@ fn moved_up(t: u64) -> Digits
     let mut m = t;
     let mut j: u64 = 52;
     while m < FIRST_DIGIT {
-        m = m * 2;
-        j = j - 1;
+        m *= 2;
+        j -= 1;
     }
     Digits { m, j }
 }
@@ -88,50 +93,46 @@ fn digits_of(b: u64) -> Digits
 }
 
 // The 53 digits of the root of a * 2^52, rounded to the nearest, with g for a guess at them.
+#[tactic(auto, using(crate::proofs::WholeRoot::whole_small))]
 fn root_digits(a: u64, g: u64) -> u64
     requires { (a < 2 ^ 54) × (g < 2 ^ 53) }
     ensures { result ≡ (whole_root 54 (a * 2 ^ 54) + 1) / 2 }
 {
-    let t = trial::nearest_to(a, g);
-    if t == 0 {
-        return (whole_root(a) + 1) / 2;
+    match trial::nearest_to(a, g) {
+        Some(t) => t,
+        None => (whole_root(a) + 1) / 2,
     }
-    t
 }
 
 // The bits of the root, from the bits of a finite double above zero.
+#[tactic(auto, using(crate::proofs::WholeRoot::whole_small))]
 fn root_bits(b: u64) -> u64
     requires { (0 < b) × (b < 0x7ff0_0000_0000_0000) }
     ensures { result ≡ root_pattern (least_units (of_bits binary64 b)) }
 {
-    let d = digits_of(b);
-    let m = d.m;
-    let j = d.j;
-    let mut a = m;
-    if j % 2 == 1 {
-        a = m * 2;
-    }
+    let Digits { m, j } = digits_of(b);
+    let a = if j % 2 == 1 { m * 2 } else { m };
     let g = guess::digits(HALF + m + j % 2 * FIRST_DIGIT);
     (j / 2 + 485) * FIRST_DIGIT + root_digits(a, g)
 }
 
 // The root of x. A zero is its own; NaN, an infinity and what is below zero are refused.
-pub fn square_root(x: f64) -> Root
+pub fn square_root(x: f64) -> Result<f64, NoRoot>
     ensures rounded { IsRoot x result }
     ensures worked_out { result ≡ root_of x }
 {
     if x != x {
-        return Root::Refused;
+        return Err(NoRoot);
     }
     let b = f64::to_bits(x);
     if b == 0 {
-        return Root::Of(x);
+        return Ok(x);
     }
     if b == MINUS_ZERO {
-        return Root::Of(x);
+        return Ok(x);
     }
     if INFINITY <= b {
-        return Root::Refused;
+        return Err(NoRoot);
     }
-    Root::Of(f64::from_bits(root_bits(b)))
+    Ok(f64::from_bits(root_bits(b)))
 }

@@ -12,11 +12,13 @@ use Rattle.shapes.specs.declared.bounding_box.BoundingBox.{BoundingBox}
 use Rattle.shapes.specs.declared.waypoint.Leg.{Leg}
 use Rattle.conflicts.specs.Conflict.{conflict_of}
 use Rattle.conflicts.specs.declared.conflict.Verdict.{Verdict}
-use Rattle.conflicts.specs.declared.conflict.Verdict.TheVariants.{Clear, Conflict, Refused}
+use Rattle.conflicts.specs.declared.conflict.Verdict.TheVariants.{Clear, Conflict}
 use Rattle.table.specs.Obstacle.{Obstacle, legs_of}
 use Rattle.segments.specs.Segment.{is_during, leg_verdict, or_else, first_of, obstacle_verdict, segment_of}
 use Rattle.segments.specs.Early.{Turn, Goes, turn_by, and_then, turns}
 use Rattle.segments.specs.Early.{iter_range, leg_turn, obstacle_turn, returned, segment_as_written}
+use Rattle.std.specs.Prelude.{Result, Ok, Err}
+use Rattle.refusals.specs.declared.Refusal.{Refusal}
 
 -- No leg that `iter_range` gives starts after the agent's end, which is what the early return asks for.
 pub not_after : (agent leg : Leg) → is_during agent leg ≡ true → lt_z agent.end.time.0 leg.start.time.0 ≡ false
@@ -27,12 +29,12 @@ not_after agent leg e =
     not-true after (both (not before) (not after) e).1
 
 -- Turns that follow verdicts go on as the first of them says.
-turn_else : (v rest : Verdict) → and_then (turn_by v) (turn_by rest) ≡ turn_by (or_else v rest)
-turn_else Clear rest = refl
-turn_else Conflict rest = refl
-turn_else (Refused n) rest = refl
+turn_else : (v rest : Result Verdict Refusal) → and_then (turn_by v) (turn_by rest) ≡ turn_by (or_else v rest)
+turn_else (Ok Clear) rest = refl
+turn_else (Ok Conflict) rest = refl
+turn_else (Err why) rest = refl
 
-turns_first : {A : Type 0} (turn : A → Turn) (says : A → Verdict) → ((x : A) → turn x ≡ turn_by (says x)) →
+turns_first : {A : Type 0} (turn : A → Turn) (says : A → Result Verdict Refusal) → ((x : A) → turn x ≡ turn_by (says x)) →
     (xs : List A) → turns turn xs ≡ turn_by (first_of says xs)
 unfolding turns first_of
 turns_first turn says same [] = refl
@@ -51,14 +53,14 @@ module _ (agent : Leg) (bounds : BoundingBox) where
       turn : Leg → Turn
       turn = leg_turn agent bounds footprint limit
 
-      v : Verdict
+      v : Result Verdict Refusal
       v = conflict_of agent bounds leg (box_of_leg footprint leg) limit
 
-      rest : Verdict
+      rest : Result Verdict Refusal
       rest = first_of (leg_verdict agent bounds footprint limit) legs
 
       by : (t : Bool) → is_during agent leg ≡ t → turns turn (iter_range agent legs) ≡ turn_by rest →
-          turns turn (cond t (leg ∷ iter_range agent legs) (iter_range agent legs)) ≡ turn_by (or_else (cond t v Clear) rest)
+          turns turn (cond t (leg ∷ iter_range agent legs) (iter_range agent legs)) ≡ turn_by (or_else (cond t v (Ok Clear)) rest)
       by true e below = rw (not_after agent leg e, below) (turn_else v rest)
       by false e below = below
 
@@ -66,7 +68,7 @@ module _ (agent : Leg) (bounds : BoundingBox) where
   unfolding obstacle_turn obstacle_verdict
   obstacle_first o = by (overlap bounds o.bounds) _ _ (legs_first o.profile.footprint o.limit (legs_of o.waypoints))
     where
-      by : (t : Bool) (turn : Turn) (v : Verdict) → turn ≡ turn_by v → cond t turn Goes ≡ turn_by (cond t v Clear)
+      by : (t : Bool) (turn : Turn) (v : Result Verdict Refusal) → turn ≡ turn_by v → cond t turn Goes ≡ turn_by (cond t v (Ok Clear))
       by true turn v e = e
       by false turn v e = refl
 
@@ -77,7 +79,7 @@ module _ (agent : Leg) (bounds : BoundingBox) where
       ap returned (turns_first (obstacle_turn agent bounds) (obstacle_verdict agent bounds) obstacle_first os) ∙
       by (first_of (obstacle_verdict agent bounds) os)
     where
-      by : (v : Verdict) → returned (turn_by v) ≡ v
-      by Clear = refl
-      by Conflict = refl
-      by (Refused n) = refl
+      by : (v : Result Verdict Refusal) → returned (turn_by v) ≡ v
+      by (Ok Clear) = refl
+      by (Ok Conflict) = refl
+      by (Err why) = refl

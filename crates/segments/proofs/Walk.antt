@@ -12,36 +12,34 @@ use Rattle.shapes.specs.Box.{overlap}
 use Rattle.shapes.specs.declared.bounding_box.BoundingBox.{BoundingBox}
 use Rattle.shapes.specs.declared.waypoint.Leg.{Leg}
 use Rattle.conflicts.specs.declared.conflict.Verdict.{Verdict}
-use Rattle.conflicts.specs.declared.conflict.Verdict.TheVariants.{Clear, Conflict, Refused}
+use Rattle.conflicts.specs.declared.conflict.Verdict.TheVariants.{Clear, Conflict}
 use Rattle.table.specs.Obstacle.{legs_of}
 use Rattle.table.specs.Table.{first_in, profile_in, limit_in, box_in, leg_in, waypoints_in, obstacle_in}
 use Rattle.table.specs.Walked.{walked_in}
 use Rattle.table.proofs.Walking.{legs_walked}
 use Rattle.segments.specs.Segment.{leg_verdict, or_else, first_of, obstacle_verdict}
+use Rattle.std.specs.Prelude.{Result, Ok, Err}
+use Rattle.refusals.specs.declared.Refusal.{Refusal}
 
--- What the `else` of `let Verdict::Clear = v else` knows of v.
-abbrev pub Ends : Verdict → Type 0
-Ends v = v ≡ Clear → ⊥
+-- An answer that is not clear: a conflict or a refusal.
+abbrev Ends : Result Verdict Refusal → Type 0
+Ends v = v ≡ Ok Clear → ⊥
 
--- A refusal is no clear verdict.
-pub refusal_ends : (n : ℕ) → Ends (Refused n)
-refusal_ends n e = cc
+ends : (v rest : Result Verdict Refusal) → Ends v → or_else v rest ≡ v
+ends (Ok Clear) rest k = absurd (k refl)
+ends (Ok Conflict) rest k = refl
+ends (Err why) rest k = refl
 
-ends : (v rest : Verdict) → Ends v → or_else v rest ≡ v
-ends Clear rest k = absurd (k refl)
-ends Conflict rest k = refl
-ends (Refused n) rest k = refl
-
-module _ {A : Type 0} (says : A → Verdict) (f : ℕ → A) (end i : ℕ) where
-  pub first_done : end ≤ i → first_of says (listed_to f end i) ≡ Clear
+module _ {A : Type 0} (says : A → Result Verdict Refusal) (f : ℕ → A) (end i : ℕ) where
+  pub first_done : end ≤ i → first_of says (listed_to f end i) ≡ Ok Clear
   unfolding first_of
   first_done h = rw (listed_done f end i h)
 
-  pub first_next : i < end → says (f i) ≡ Clear → first_of says (listed_to f end i) ≡ first_of says (listed_to f end (i + 1))
+  pub first_next : i < end → says (f i) ≡ Ok Clear → first_of says (listed_to f end i) ≡ first_of says (listed_to f end (i + 1))
   unfolding first_of
   first_next h e = rw (listed_next f end i h, e)
 
-  pub first_here : (v : Verdict) → Ends v → i < end → v ≡ says (f i) → v ≡ first_of says (listed_to f end i)
+  pub first_here : (v : Result Verdict Refusal) → Ends v → i < end → v ≡ says (f i) → v ≡ first_of says (listed_to f end i)
   unfolding first_of
   first_here v k h e = sym (ends v (first_of says (listed_to f end (i + 1))) k) ∙ rw (listed_next f end i h, sym e)
 
@@ -54,12 +52,15 @@ unfolding obstacle_verdict first_of
 obstacle_begins agent bounds marks places o =
     ap (first_of says) (legs_walked bounds marks places o) ∙ by (overlap bounds (box_in places o))
   where
-    says : Leg → Verdict
+    says : Leg → Result Verdict Refusal
     says = leg_verdict agent bounds (profile_in places o).footprint (limit_in places o)
 
     legs : List Leg
     legs = legs_of (waypoints_in marks places o)
 
-    by : (t : Bool) → first_of says (cond t legs []) ≡ cond t (first_of says legs) Clear
+    by : (t : Bool) → first_of says (cond t legs []) ≡ cond t (first_of says legs) (Ok Clear)
     by true = refl
     by false = refl
+
+-- What a loop that ends at the first answer which is not clear cites.
+pub ruleset walk = (first_done, first_next, first_here, obstacle_begins)

@@ -7,20 +7,22 @@ use Rattle.shapes.specs.declared.bounding_box.BoundingBox.{BoundingBox}
 use Rattle.shapes.specs.declared.waypoint.Leg.{Leg}
 use Rattle.conflicts.specs.Conflict.{conflict_of}
 use Rattle.conflicts.specs.declared.conflict.Verdict.{Verdict}
-use Rattle.conflicts.specs.declared.conflict.Verdict.TheVariants.{Clear, Conflict, Refused}
+use Rattle.conflicts.specs.declared.conflict.Verdict.TheVariants.{Clear, Conflict}
 use Rattle.table.specs.Obstacle.{Obstacle, legs_of}
 use Rattle.segments.specs.Segment.{is_during}
+use Rattle.std.specs.Prelude.{Result, Ok, Err}
+use Rattle.refusals.specs.declared.Refusal.{Refusal}
 
 -- What a turn of a loop does: it goes on to the next, or it returns from the whole function.
 pub data Turn : Type 0 where
   Goes : Turn
-  Returns : Verdict → Turn
+  Returns : Result Verdict Refusal → Turn
 
 -- A verdict on a leg returns at once, unless it is clear.
-abbrev pub turn_by : Verdict → Turn
-turn_by Clear = Goes
-turn_by Conflict = Returns Conflict
-turn_by (Refused n) = Returns (Refused n)
+abbrev pub turn_by : Result Verdict Refusal → Turn
+turn_by (Ok Clear) = Goes
+turn_by (Ok Conflict) = Returns (Ok Conflict)
+turn_by (Err why) = Returns (Err why)
 
 abbrev pub and_then : Turn → Turn → Turn
 and_then Goes rest = rest
@@ -40,7 +42,7 @@ iter_range agent (leg ∷ legs) = cond (is_during agent leg) (leg ∷ iter_range
 unfoldable pub leg_turn : Leg → BoundingBox → Float → Float → Leg → Turn
 leg_turn agent bounds footprint limit leg =
     cond (lt_z agent.end.time.0 leg.start.time.0)
-    (Returns Clear)
+    (Returns (Ok Clear))
     (turn_by (conflict_of agent bounds leg (box_of_leg footprint leg) limit))
 
 -- An obstacle: `continue` where its box does not overlap, else its legs.
@@ -51,9 +53,9 @@ obstacle_turn agent bounds o =
     Goes
 
 -- The function as a whole: `true`, for clear, after the last obstacle.
-abbrev pub returned : Turn → Verdict
-returned Goes = Clear
+abbrev pub returned : Turn → Result Verdict Refusal
+returned Goes = Ok Clear
 returned (Returns v) = v
 
-unfoldable pub segment_as_written : Leg → BoundingBox → List Obstacle → Verdict
+unfoldable pub segment_as_written : Leg → BoundingBox → List Obstacle → Result Verdict Refusal
 segment_as_written agent bounds obstacles = returned (turns (obstacle_turn agent bounds) obstacles)

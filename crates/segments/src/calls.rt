@@ -5,7 +5,7 @@ ghost use Rattle.segments.specs.Asked.{asked_segment};
 
 use crate::segment;
 use conflicts::conflict::Verdict;
-use domain::limits::Examined;
+use refusals::Refusal;
 use shapes::bounding_box::BoundingBox;
 use shapes::profile::CircularProfile;
 use shapes::waypoint::Leg;
@@ -13,6 +13,7 @@ use table_checks::examine;
 use table_packing::packing;
 
 // Whether the agent's leg, in the box of its own footprint, is safe among the obstacles of a lent table.
+#[tactic(auto, using(table_packing::proofs::Packed::packed_table), unfolding(crate::specs::Asked::asked_segment))]
 pub fn segment(
     p: CircularProfile,
     agent: Leg,
@@ -21,19 +22,14 @@ pub fn segment(
     times: &[i64],
     xs: &[f64],
     ys: &[f64],
-) -> Verdict
+) -> Result<Verdict, Refusal>
     ensures { result ≡ asked_segment p agent
         (lent_of starts.now numbers.now times.now xs.now ys.now) }
 {
     let mut marks = [0u64; 417];
     let mut places = [0.0; 800];
     let packed = packing::pack(starts, numbers, times, xs, ys, &mut marks, &mut places);
-    let input = examine::examine(packed, p, agent, &marks, &places);
-    match input {
-        Examined::Refused(n) => Verdict::Refused(n),
-        Examined::Fine => {
-            let bounds = BoundingBox::for_line(p.footprint, agent);
-            segment::is_safe_segment(agent, bounds, &marks, &places)
-        }
-    }
+    examine::examine(packed, p, agent, &marks, &places)?;
+    let bounds = BoundingBox::for_line(p.footprint, agent);
+    segment::is_safe_segment(agent, bounds, &marks, &places)
 }

@@ -9,7 +9,6 @@ use Rattle.lent.specs.Listed.{every}
 use Rattle.times.proofs.Exact.{both}
 use Rattle.shapes.specs.Leg.{is_backward, is_rising}
 use Rattle.domain.specs.Domain.{is_limit, is_waypoint, is_leg, is_profile}
-use Rattle.domain.specs.declared.limits.Examined.TheVariants.{Fine}
 use Rattle.shapes.specs.declared.profile.CircularProfile.{CircularProfile}
 use Rattle.shapes.specs.declared.waypoint.Leg.{Leg}
 use Rattle.shapes.specs.declared.waypoint.Waypoint.{Waypoint}
@@ -17,6 +16,8 @@ use Rattle.table.specs.Obstacle.{Obstacle, legs_from, legs_of}
 use Rattle.table.specs.Lent.{Lent, obstacles_of}
 use Rattle.table.specs.Examined.{is_laid, is_trajectory, is_few, are_trajectories, is_shaped, is_allowed, are_allowed, table_examined, agent_examined}
 use Rattle.table.proofs.Shaped.{fine_fits}
+use Rattle.std.specs.Prelude.{Result, Ok, Err}
+use Rattle.refusals.specs.declared.Refusal.{Refusal}
 
 -- A leg of the table that ends after it starts.
 abbrev pub is_driven : Leg → Bool
@@ -71,7 +72,7 @@ obstacles_fit (o ∷ os) allowed moves =
 
 -- An input that is fine.
 pub table_accepted : (laid : Bool) (p : CircularProfile) (leg : Leg) (os : List Obstacle) →
-    table_examined laid p leg os ≡ Fine → Accepted p leg os
+    table_examined laid p leg os ≡ (Ok tt) → Accepted p leg os
 unfolding is_shaped are_trajectories are_allowed
 table_accepted laid p leg os e =
     let f = fine_fits laid p leg os e in
@@ -84,6 +85,6 @@ table_accepted laid p leg os e =
 
 -- The same for lent lists.
 pub accepted : (p : CircularProfile) (leg : Leg) (lent : Lent) →
-    agent_examined p leg lent ≡ Fine → Accepted p leg (obstacles_of lent)
+    agent_examined p leg lent ≡ (Ok tt) → Accepted p leg (obstacles_of lent)
 unfolding agent_examined
 accepted p leg lent = table_accepted (is_laid lent) p leg (obstacles_of lent)

@@ -3,6 +3,7 @@
 use Prim.Native.Nat.{ℕ, zero, suc, ◌+◌, ◌-◌, ◌≤◌, ◌<◌}
 use mathlib.Core.Path.{◌≡◌, refl, sym, ap, ◌∙◌}
 use mathlib.Core.List.{List, [], ◌∷◌}
+use native.Mathlib.Numerals.{add-one}
 use native.Mathlib.Omega.{arith}
 use lib.ListN.{length}
 use Rattle.lent.specs.Listed.{listed_to}
@@ -41,7 +42,7 @@ pub legs_count : (w : ℕ → Waypoint) (end i : ℕ) → length (legs_of (liste
 legs_count w end i = length_legs (listed_to w end i) ∙ ap (λ n. n - 1) (length_listed w (end - i) i)
 
 -- The legs up to the waypoint at `last`, one by one.
-pub legs_listed : (w : ℕ → Waypoint) (last i : ℕ) →
+legs_listed : (w : ℕ → Waypoint) (last i : ℕ) →
     listed_to (λ j. record { start = w j; end = w (j + 1) }) last i ≡ legs_of (listed_to w (last + 1) i)
 legs_listed w last i = by (last - i) i refl
   where
@@ -54,3 +55,9 @@ legs_listed w last i = by (last - i) i refl
         listed_next leg last j (omega arith) ∙
         ap (λ legs. leg j ∷ legs) (by n (j + 1) (omega arith)) ∙
         sym (legs_next w (last + 1) j (omega arith))
+
+-- All legs, up to the last waypoint: none where there is no waypoint.
+pub legs_up_to : (w : ℕ → Waypoint) (end i : ℕ) →
+    listed_to (λ j. record { start = w j; end = w (j + 1) }) (end - 1) i ≡ legs_of (listed_to w end i)
+legs_up_to w zero i = listed_done _ (0 - 1) i (omega arith) ∙ sym (legs_done w 0 i (omega arith))
+legs_up_to w (suc end) i = let same : suc end - 1 ≡ end = omega arith in rw (same, ← add-one end) (legs_listed w end i)

@@ -10,12 +10,14 @@ use lib.ListN.{length}
 use Rattle.times.proofs.Exact.{both}
 use Rattle.shapes.specs.Leg.{is_backward}
 use Rattle.domain.specs.Domain.{is_leg, is_profile}
-use Rattle.domain.specs.declared.limits.Examined.TheVariants.{Fine, Refused}
 use Rattle.shapes.specs.declared.profile.CircularProfile.{CircularProfile}
 use Rattle.shapes.specs.declared.waypoint.Leg.{Leg}
 use Rattle.table.specs.Obstacle.{Obstacle}
 use Rattle.table.specs.Lent.{Lent, obstacles_of}
 use Rattle.table.specs.Examined.{is_laid, legs_in_all, is_few, are_trajectories, is_shaped, are_allowed, table_examined, agent_examined}
+use Rattle.std.specs.Prelude.{Result, Ok, Err}
+use Rattle.refusals.specs.declared.Refusal.{Refusal}
+use Rattle.refusals.specs.declared.Refusal.TheVariants as Refusals
 
 pub shaped_few : (os : List Obstacle) → is_shaped os ≡ true → is_few os ≡ true
 unfolding is_shaped
@@ -41,13 +43,14 @@ pub record Fits (laid : Bool) (p : CircularProfile) (agent : Leg) (os : List Obs
   pub forward : is_backward agent ≡ false
 
 pub fine_fits : (laid : Bool) (p : CircularProfile) (agent : Leg) (os : List Obstacle) →
-    table_examined laid p agent os ≡ Fine → Fits laid p agent os
+    table_examined laid p agent os ≡ Ok tt → Fits laid p agent os
 unfolding table_examined
 fine_fits laid p agent os = by (laid && is_shaped os) (is_profile p && (is_leg agent && are_allowed os)) (is_backward agent) refl refl refl
   where
     by : (shaped allowed backward : Bool) →
         (laid && is_shaped os) ≡ shaped → (is_profile p && (is_leg agent && are_allowed os)) ≡ allowed → is_backward agent ≡ backward →
-        cond shaped (cond allowed (cond backward (Refused 3) Fine) (Refused 1)) (Refused 2) ≡ Fine →
+        cond {A = Result Unit Refusal} shaped
+        (cond allowed (cond backward (Err Refusals.Backward) (Ok tt)) (Err Refusals.Number)) (Err Refusals.Shape) ≡ Ok tt →
         Fits laid p agent os
     by true true false shaped allowed forward e =
         let lists = both laid (is_shaped os) shaped in
@@ -60,11 +63,11 @@ fine_fits laid p agent os = by (laid && is_shaped os) (is_profile p && (is_leg a
 
 -- So its lists fit and its table has the right shape.
 pub fine_table : (laid : Bool) (p : CircularProfile) (agent : Leg) (os : List Obstacle) →
-    table_examined laid p agent os ≡ Fine → (laid ≡ true) × (is_shaped os ≡ true)
+    table_examined laid p agent os ≡ Ok tt → (laid ≡ true) × (is_shaped os ≡ true)
 fine_table laid p agent os e = let f = fine_fits laid p agent os e in (f.listed, f.shaped)
 
 -- The same for lent lists.
 pub fine_shaped : (p : CircularProfile) (agent : Leg) (lent : Lent) →
-    agent_examined p agent lent ≡ Fine → is_shaped (obstacles_of lent) ≡ true
+    agent_examined p agent lent ≡ Ok tt → is_shaped (obstacles_of lent) ≡ true
 unfolding agent_examined
 fine_shaped p agent lent e = (fine_table (is_laid lent) p agent (obstacles_of lent) e).1

@@ -1,11 +1,10 @@
 -- What is read of the packed table: at most 32 obstacles and 288 waypoints, and the legs of an obstacle.
 -- Assumes nothing.
-use Prim.Native.Nat.{ℕ, zero, suc, ◌+◌, ◌-◌, ◌≤◌, min}
-use mathlib.Core.Path.{◌≡◌, sym, ◌∙◌}
+use Prim.Native.Nat.{ℕ, ◌+◌, ◌-◌, ◌≤◌, min}
+use mathlib.Core.Path.{◌≡◌, ◌∙◌}
 use mathlib.Core.Bool.{Bool, true, false, cond}
 use mathlib.Core.List.{List, []}
 use native.Mathlib.Nat.{sub-zero}
-use native.Mathlib.Numerals.{add-one}
 use native.Mathlib.Omega.{arith}
 use lib.ListN.{length}
 use lib.Ieee.{Float}
@@ -13,10 +12,8 @@ use Rattle.lent.specs.Listed.{listed_to}
 use Rattle.lent.proofs.Listed.{listed_done, length_listed}
 use Rattle.shapes.specs.Box.{overlap}
 use Rattle.shapes.specs.declared.bounding_box.BoundingBox.{BoundingBox}
-use Rattle.shapes.specs.declared.waypoint.Leg.{Leg}
-use Rattle.shapes.specs.declared.waypoint.Waypoint.{Waypoint}
 use Rattle.table.specs.Obstacle.{legs_of}
-use Rattle.table.proofs.Legs.{legs_done, legs_listed}
+use Rattle.table.proofs.Legs.{legs_up_to}
 use Rattle.table.specs.Table.{obstacle_count, first_in, end_in, box_in, waypoint_in, leg_in, waypoints_in, obstacle_in, obstacles_in}
 use Rattle.table.specs.Walked.{last_in, walked_in}
 
@@ -55,20 +52,7 @@ obstacles_counted marks places =
 pub legs_in_law : (marks : List ℕ) (places : List Float) (o : ℕ) →
     listed_to (leg_in marks places) (last_in marks o) (first_in marks o) ≡ legs_of (waypoints_in marks places o)
 unfolding last_in waypoints_in
-legs_in_law marks places o = legs (end_in marks o)
-  where
-    w : ℕ → Waypoint
-    w = waypoint_in marks places
-
-    leg : ℕ → Leg
-    leg = leg_in marks places
-
-    from : ℕ
-    from = first_in marks o
-
-    legs : (end : ℕ) → listed_to leg (end - 1) from ≡ legs_of (listed_to w end from)
-    legs zero = listed_done leg 0 from (omega arith) ∙ sym (legs_done w 0 from (omega arith))
-    legs (suc n) = let same : suc n - 1 ≡ n = omega arith in rw (same, ← add-one n) (legs_listed w n from)
+legs_in_law marks places o = legs_up_to (waypoint_in marks places) (end_in marks o) (first_in marks o)
 
 -- Those that a walk takes: all of them where its box overlaps the agent's, else none.
 pub legs_walked : (bounds : BoundingBox) (marks : List ℕ) (places : List Float) (o : ℕ) →

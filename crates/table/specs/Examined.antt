@@ -5,13 +5,14 @@ use Rattle.refusals.specs.Names.{NUMBER, SHAPE, BACKWARD}
 use Rattle.lent.specs.Listed.{listed_to, every}
 use Rattle.shapes.specs.Leg.{is_backward, is_rising}
 use Rattle.domain.specs.Domain.{is_limit, is_waypoint, is_leg, is_profile}
-use Rattle.domain.specs.declared.limits.Examined.{Examined}
-use Rattle.domain.specs.declared.limits.Examined.TheVariants.{Fine, Refused}
 use Rattle.shapes.specs.declared.profile.CircularProfile.{CircularProfile}
 use Rattle.shapes.specs.declared.waypoint.Leg.{Leg}
 use Rattle.shapes.specs.declared.waypoint.Waypoint.{Waypoint}
 use Rattle.table.specs.Obstacle.{Obstacle, legs_of}
 use Rattle.table.specs.Lent.{Lent, start_in, obstacles_of}
+use Rattle.std.specs.Prelude.{Result, Ok, Err}
+use Rattle.refusals.specs.declared.Refusal.{Refusal}
+use Rattle.refusals.specs.declared.Refusal.TheVariants as Refusals
 
 -- The starts begin at 0 and never fall, up to the count of waypoints: each waypoint belongs to one obstacle.
 unfoldable pub tiles : List ℕ → ℕ → Bool
@@ -57,12 +58,12 @@ are_allowed os = every is_allowed os
 
 -- What is wrong with the agent's profile and leg and the obstacles, whose lists fit one another or do not: every ground for 2 before
 -- any for 1, and 3 last (RULES 5.1).
-unfoldable pub table_examined : Bool → CircularProfile → Leg → List Obstacle → Examined
+unfoldable pub table_examined : Bool → CircularProfile → Leg → List Obstacle → Result Unit Refusal
 table_examined laid p leg os =
     cond (laid && is_shaped os)
-    (cond (is_profile p && (is_leg leg && are_allowed os)) (cond (is_backward leg) (Refused BACKWARD) Fine) (Refused NUMBER))
-    (Refused SHAPE)
+    (cond (is_profile p && (is_leg leg && are_allowed os)) (cond (is_backward leg) (Err Refusals.Backward) (Ok tt)) (Err Refusals.Number))
+    (Err Refusals.Shape)
 
 -- The same for lent lists.
-unfoldable pub agent_examined : CircularProfile → Leg → Lent → Examined
+unfoldable pub agent_examined : CircularProfile → Leg → Lent → Result Unit Refusal
 agent_examined p leg lent = table_examined (is_laid lent) p leg (obstacles_of lent)

@@ -13,30 +13,21 @@ use times::time::TimePoint;
 pub fn number_at(list: &[f64], i: usize) -> f64
     ensures { result ≡ get_or list.now i nought }
 {
-    if i < list.len() {
-        return list[i];
-    }
-    0.0
+    list.get(i).copied().unwrap_or(0.0)
 }
 
 // An instant of the list of times.
 pub fn time_at(times: &[i64], i: usize) -> TimePoint
     ensures { result ≡ record { 0 = get_or times.now i (pos 0) } }
 {
-    if i < times.len() {
-        return TimePoint(times[i]);
-    }
-    TimePoint(0)
+    TimePoint(times.get(i).copied().unwrap_or(0))
 }
 
 // Where the waypoints of obstacle o begin; past the last obstacle, how many waypoints there are.
 pub fn start_of(starts: &[usize], count: usize, o: usize) -> usize
     ensures { result ≡ start_in starts.now count o }
 {
-    if o < starts.len() {
-        return starts[o];
-    }
-    count
+    starts.get(o).copied().unwrap_or(count)
 }
 
 // The footprint and the follow buffer of obstacle o.

@@ -12,6 +12,7 @@ use shapes::waypoint::{Leg, Waypoint};
 use times::time::TimePoint;
 
 // How many obstacles there are.
+#[tactic(auto, unfolding(crate::specs::Table::obstacle_count))]
 pub fn count_of(marks: &[u64; 417]) -> usize
     ensures { result ≡ obstacle_count marks.now }
 {
@@ -53,6 +54,7 @@ fn in_room(n: u64) -> usize
 }
 
 // Where the waypoints of obstacle o begin.
+#[tactic(auto, unfolding(crate::specs::Table::first_in))]
 pub fn first_of(marks: &[u64; 417], o: usize) -> usize
     ensures { result ≡ first_in marks.now o }
 {
@@ -60,6 +62,7 @@ pub fn first_of(marks: &[u64; 417], o: usize) -> usize
 }
 
 // Where they end: behind its last.
+#[tactic(auto, unfolding(crate::specs::Table::end_in))]
 pub fn end_of(marks: &[u64; 417], o: usize) -> usize
     ensures { result ≡ end_in marks.now o }
 {
@@ -67,6 +70,7 @@ pub fn end_of(marks: &[u64; 417], o: usize) -> usize
 }
 
 // The footprint and the follow buffer of obstacle o.
+#[tactic(auto, unfolding(crate::specs::Table::profile_in))]
 pub fn profile_at(places: &[f64; 800], o: usize) -> CircularProfile
     ensures { result ≡ profile_in places.now o }
 {
@@ -78,6 +82,7 @@ pub fn profile_at(places: &[f64; 800], o: usize) -> CircularProfile
 }
 
 // Its conflict distance squared.
+#[tactic(auto, unfolding(crate::specs::Table::limit_in))]
 pub fn limit_at(places: &[f64; 800], o: usize) -> f64
     ensures { result ≡ limit_in places.now o }
 {
@@ -85,6 +90,7 @@ pub fn limit_at(places: &[f64; 800], o: usize) -> f64
 }
 
 // Its box.
+#[tactic(auto, unfolding(crate::specs::Table::box_in))]
 pub fn box_at(places: &[f64; 800], o: usize) -> BoundingBox
     ensures { result ≡ box_in places.now o }
 {
@@ -98,6 +104,7 @@ pub fn box_at(places: &[f64; 800], o: usize) -> BoundingBox
 }
 
 // Waypoint i of the table.
+#[tactic(auto, unfolding(crate::specs::Table::waypoint_in))]
 pub fn waypoint_at(marks: &[u64; 417], places: &[f64; 800], i: usize) -> Waypoint
     ensures { result ≡ waypoint_in marks.now places.now i }
 {

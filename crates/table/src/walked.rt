@@ -6,6 +6,7 @@ use crate::reading;
 use shapes::bounding_box::BoundingBox;
 
 // The last waypoint of obstacle o, where a walk over its legs ends.
+#[tactic(auto, unfolding(crate::specs::Walked::last_in))]
 pub fn last_of(marks: &[u64; 417], o: usize) -> usize
     ensures { result ≡ last_in marks.now o }
 {
@@ -17,6 +18,7 @@ pub fn last_of(marks: &[u64; 417], o: usize) -> usize
 }
 
 // The same where the obstacle's box overlaps the agent's; where it does not, 0, so that none of its legs is walked.
+#[tactic(auto, unfolding(crate::specs::Walked::walked_in))]
 pub fn walked_to(bounds: BoundingBox, marks: &[u64; 417], places: &[f64; 800], o: usize) -> usize
     ensures { result ≡ walked_in bounds marks.now places.now o }
 {

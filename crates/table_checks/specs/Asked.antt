@@ -11,8 +11,12 @@ use Rattle.shapes.specs.declared.profile.CircularProfile.{CircularProfile}
 use Rattle.table.specs.Obstacle.{box_of_trajectory}
 use Rattle.table.specs.Lent.{Lent, waypoint_listed, obstacles_of}
 use Rattle.table.specs.Examined.{is_laid, is_shaped, are_allowed}
-use Rattle.table_checks.specs.declared.calls.Hull.{Hull}
-use Rattle.table_checks.specs.declared.calls.Hull.TheVariants.{Of, Missing, Refused}
+use Rattle.std.specs.Prelude.{Result, Ok, Err}
+use Rattle.std.specs.Prelude.{Option, Some, None}
+use Rattle.refusals.specs.declared.Refusal.{Refusal}
+use Rattle.shapes.specs.declared.bounding_box.BoundingBox.{BoundingBox}
+use Rattle.refusals.specs.declared.Refusal.TheVariants as Refusals
+use Rattle.refusals.specs.Names.{refusal_number}
 
 -- One obstacle as a table of its own; the conflict distance plays no part in its box.
 abbrev pub alone : CircularProfile → List ℤ → List Float → List Float → Lent
@@ -20,19 +24,19 @@ alone p times xs ys =
     record { starts = 0 ∷ []; numbers = p.footprint ∷ (p.follow ∷ (nought ∷ [])); times = times; xs = xs; ys = ys }
 
 -- 2 for the lists and their times, 1 for the numbers; no box where it has no trajectory (RULES 7.10).
-unfoldable pub asked_hull : CircularProfile → List ℤ → List Float → List Float → Hull
+unfoldable pub asked_hull : CircularProfile → List ℤ → List Float → List Float → Result (Option BoundingBox) Refusal
 asked_hull p times xs ys =
     cond (is_laid (alone p times xs ys) && is_shaped (obstacles_of (alone p times xs ys)))
     (cond (are_allowed (obstacles_of (alone p times xs ys)))
     (cond (eqb (length times) 0)
-    Missing
-    (Of (box_of_trajectory p.footprint (listed_to (waypoint_listed times xs ys) (length times) 0))))
-    (Refused NUMBER))
-    (Refused SHAPE)
+    (Ok None)
+    (Ok (Some (box_of_trajectory p.footprint (listed_to (waypoint_listed times xs ys) (length times) 0)))))
+    (Err Refusals.Number))
+    (Err Refusals.Shape)
 
 -- The number and the words of each case: whether there is a box, and its bounds.
-abbrev pub hull_outcome : Hull → Outcome
-hull_outcome (Of b) =
+abbrev pub hull_outcome : Result (Option BoundingBox) Refusal → Outcome
+hull_outcome (Ok (Some b)) =
     Gives (1 ∷ (to_bits binary64 b.left ∷ (to_bits binary64 b.bottom ∷ (to_bits binary64 b.right ∷ (to_bits binary64 b.top ∷ [])))))
-hull_outcome Missing = Gives (0 ∷ [])
-hull_outcome (Refused n) = Refuses n
+hull_outcome (Ok None) = Gives (0 ∷ [])
+hull_outcome (Err n) = Refuses (refusal_number n)

@@ -3,21 +3,19 @@ ghost use Rattle.std.specs.Prelude.{◌≡◌};
 ghost use Rattle.table_checks.specs.Asked.{asked_hull};
 
 use crate::examine;
+use refusals::Refusal;
 use shapes::bounding_box::BoundingBox;
 use shapes::profile::CircularProfile;
 use table::reading;
 use table_packing::packing;
 
-// The box of an obstacle, that it has none, or a refusal and its number.
-#[derive(Clone, Copy)]
-pub enum Hull {
-    Of(BoundingBox),
-    Missing,
-    Refused(u64),
-}
-
-// The box of an obstacle with these waypoints, as a table of its own.
-pub fn box_of_obstacle(p: CircularProfile, times: &[i64], xs: &[f64], ys: &[f64]) -> Hull
+// The box of an obstacle with these waypoints, as a table of its own; none where there are no waypoints.
+pub fn box_of_obstacle(
+    p: CircularProfile,
+    times: &[i64],
+    xs: &[f64],
+    ys: &[f64],
+) -> Result<Option<BoundingBox>, Refusal>
     ensures { result ≡ asked_hull p times.now xs.now ys.now }
 {
     let starts = [0usize];
@@ -25,16 +23,16 @@ pub fn box_of_obstacle(p: CircularProfile, times: &[i64], xs: &[f64], ys: &[f64]
     let mut marks = [0u64; 417];
     let mut places = [0.0; 800];
     if !packing::pack(&starts, &numbers, times, xs, ys, &mut marks, &mut places) {
-        return Hull::Refused(refusals::SHAPE);
+        return Err(Refusal::Shape);
     }
     if !examine::is_shaped(&marks, &places) {
-        return Hull::Refused(refusals::SHAPE);
+        return Err(Refusal::Shape);
     }
     if !examine::are_allowed(&marks, &places) {
-        return Hull::Refused(refusals::NUMBER);
+        return Err(Refusal::Number);
     }
     if times.len() == 0 {
-        return Hull::Missing;
+        return Ok(None);
     }
-    Hull::Of(reading::box_at(&places, 0))
+    Ok(Some(reading::box_at(&places, 0)))
 }

@@ -14,7 +14,6 @@ use lib.Ieee.{Float, nan}
 use Rattle.floats.specs.Constants.{nought}
 use Rattle.number_words.specs.Word.{word_of, signed_of}
 use Rattle.times.proofs.Exact.{both}
-use Rattle.domain.specs.declared.limits.Examined.TheVariants.{Fine, Refused}
 use Rattle.shapes.specs.declared.profile.CircularProfile.{CircularProfile}
 use Rattle.shapes.specs.declared.waypoint.Leg.{Leg}
 use Rattle.shapes.specs.declared.waypoint.Waypoint.{Waypoint}
@@ -39,6 +38,9 @@ use Rattle.table_packing.proofs.Filled as F
 use Rattle.table_packing.proofs.Boxed.{boxed_obstacles}
 use Rattle.table_packing.proofs.Tabled.{Row, rows_obstacles}
 use Rattle.table_packing.proofs.Tiled.{starts_in_room, unpacked_refused}
+use Rattle.std.specs.Prelude.{Result, Ok, Err}
+use Rattle.refusals.specs.declared.Refusal.{Refusal}
+use Rattle.refusals.specs.declared.Refusal.TheVariants as Refusals
 
 -- ---- The ends of all obstacles, put into a list of marks.
 
@@ -281,7 +283,7 @@ room_laid lent e =
     (both (leb (length lent.times) 288) (is_laid lent) laid).1
 
 refused_shape : (laid : Bool) (p : CircularProfile) (leg : Leg) (os : List Obstacle) →
-    (laid && is_shaped os) ≡ false → table_examined laid p leg os ≡ Refused 2
+    (laid && is_shaped os) ≡ false → table_examined laid p leg os ≡ Err Refusals.Shape
 unfolding table_examined
 refused_shape laid p leg os e = rw e
 
@@ -311,7 +313,10 @@ packed_examined lent marks places r p leg packs = by (has_room_for lent) refl
 
 -- and where it is fine, the obstacles are those that were lent.
 pub packed_fine : (lent : Lent) (marks : List ℕ) (places : List Float) (r : Bool) (p : CircularProfile) (leg : Leg) →
-    Packs lent marks places r → table_examined r p leg (obstacles_in marks places) ≡ Fine →
+    Packs lent marks places r → table_examined r p leg (obstacles_in marks places) ≡ Ok tt →
     obstacles_in marks places ≡ obstacles_of lent
 packed_fine lent marks places r p leg packs fine =
     packed_obstacles lent marks places r packs (fine_table r p leg (obstacles_in marks places) fine).0
+
+-- What a call that packs a table and has it examined cites.
+pub ruleset packed_table = (packed_examined, packed_fine)

@@ -9,6 +9,7 @@ use native.Mathlib.Omega.{arith}
 use native.Mathlib.Numerals.{add-one}
 use borrow.Author.Tests.{ltb-true}
 use lib.Dec.{ltb}
+use Rattle.std.proofs.lemmas.List.{get_or_default}
 use Rattle.table_packing.specs.Filling.{put_from, put_to}
 
 -- What holds with a thing stored, where it has room, and of the list as it was, holds of the two by that test.
@@ -55,3 +56,6 @@ module _ {A : Type 0} (put : ℕ → A → A) where
     -- Of all that are put from the first on, each.
     pub put_all_read : (n : ℕ) (l : A) (p : ℕ) → n ≤ room → p < n → IsGood l → read p (put_to put n 0 l) ≡ v p
     put_all_read n l p fits h good-l = put_read (n - 0) 0 l p (omega arith) (omega arith) (omega arith) good-l
+
+-- What a loop that puts one thing after another cites.
+pub ruleset puts = (put_next, put_done, get_or_default)

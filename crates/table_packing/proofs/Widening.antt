@@ -32,3 +32,6 @@ module _ (w : ℕ → Waypoint) (end i : ℕ) where
       box_of_trajectory footprint (listed_to w end i) ≡ record { left = nought; bottom = nought; right = nought; top = nought }
   unfolding box_of_trajectory
   box_of_none footprint h = rw (listed_done w end i h)
+
+-- What a loop that widens a box cites.
+pub ruleset widening = (widened_next, widened_done, box_begins, box_of_none)

@@ -10,6 +10,7 @@ use shapes::bounding_box::BoundingBox;
 use table::reading;
 
 // The box of the waypoints from `from` up to `to`, grown by the footprint.
+#[tactic(auto, using(crate::proofs::Widening::widening))]
 fn for_trajectory(
     footprint: f64,
     marks: &[u64; 417],
@@ -29,16 +30,15 @@ fn for_trajectory(
     }
     let w = reading::waypoint_at(marks, places, from);
     let mut b = BoundingBox::for_point(w.x, w.y);
-    let mut i = from;
-    while i < to {
+    for i in from..to {
         let v = reading::waypoint_at(marks, places, i);
         b = b.incorporating(v.x, v.y);
-        i += 1;
     }
     b.inflated_by(footprint)
 }
 
 // The box of obstacle o.
+#[tactic(auto, unfolding(crate::specs::Filling::own_box, table::specs::Table::waypoints_in))]
 fn box_of(marks: &[u64; 417], places: &[f64; 800], o: usize) -> BoundingBox
     ensures { result ≡ own_box marks.now places.now o }
 {
@@ -49,14 +49,12 @@ fn box_of(marks: &[u64; 417], places: &[f64; 800], o: usize) -> BoundingBox
 }
 
 // Puts the box of every obstacle at its place.
+#[tactic(auto, using(crate::proofs::Stored::puts), unfolding(crate::specs::Filling::boxes_in))]
 pub fn put_boxes(marks: &[u64; 417], places: &mut [f64; 800])
     ensures { places.new ≡ boxes_in marks.now places.old }
 {
-    let n = reading::count_of(marks);
-    let mut o = 0;
-    while o < n {
+    for o in 0..reading::count_of(marks) {
         let b = box_of(marks, places, o);
         filling::put_box(places, o, b);
-        o += 1;
     }
 }

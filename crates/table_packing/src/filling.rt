@@ -15,6 +15,7 @@ pub fn put_count(marks: &mut [u64; 417], n: usize)
 }
 
 // Where the waypoints of obstacle o begin and end.
+#[tactic(auto, unfolding(crate::specs::Filling::with_ends))]
 pub fn put_ends(marks: &mut [u64; 417], o: usize, first: usize, end: usize)
     ensures { marks.new ≡ with_ends marks.old o first end }
 {
@@ -25,6 +26,7 @@ pub fn put_ends(marks: &mut [u64; 417], o: usize, first: usize, end: usize)
 }
 
 // Its profile and its conflict distance squared.
+#[tactic(auto, unfolding(crate::specs::Filling::with_profile))]
 pub fn put_profile(places: &mut [f64; 800], o: usize, p: CircularProfile, limit: f64)
     ensures { places.new ≡ with_profile places.old o p limit }
 {
@@ -36,6 +38,7 @@ pub fn put_profile(places: &mut [f64; 800], o: usize, p: CircularProfile, limit:
 }
 
 // Its box.
+#[tactic(auto, unfolding(crate::specs::Filling::with_box))]
 pub fn put_box(places: &mut [f64; 800], o: usize, b: BoundingBox)
     ensures { places.new ≡ with_box places.old o b }
 {
@@ -48,6 +51,7 @@ pub fn put_box(places: &mut [f64; 800], o: usize, b: BoundingBox)
 }
 
 // Waypoint i.
+#[tactic(auto, unfolding(crate::specs::Filling::with_time, crate::specs::Filling::with_place))]
 pub fn put_waypoint(marks: &mut [u64; 417], places: &mut [f64; 800], i: usize, w: Waypoint)
     ensures { PutsWaypoint i w marks.old marks.new places.old places.new }
 {

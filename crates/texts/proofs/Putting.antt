@@ -1,13 +1,13 @@
 -- Pieces put one behind another: two of them are one, and what is left of a text, put from where its front ends, is the whole.
 -- Assumes nothing.
-use Prim.Native.Nat.{ℕ, suc, ◌+◌, ◌≤◌, ◌<◌}
+use Prim.Native.Nat.{ℕ, suc, ◌+◌, ◌≤◌, ◌<◌, min}
 use mathlib.Core.Path.{◌≡◌, refl, sym, ap, ◌∙◌}
 use mathlib.Core.List.{List, [], ◌∷◌, ◌++◌}
 use borrow.Author.Tests.{le-leb, lt-leb}
 use native.Mathlib.Nat.{add-zero}
 use native.Mathlib.Omega.{arith}
 use lib.ListN.{length, set, length-set, length-append}
-use lib.Seq.{set_out}
+pub use lib.Seq.{set_out}
 use Rattle.lent.proofs.Fours.{either}
 use Rattle.texts.specs.Room.{with_bytes, reached, PutText}
 
@@ -81,6 +81,9 @@ reached_within room at n =
     either (at + n) room (reached room at n ≤ room + 1) (λ k. rw (reached_fits room at n k) (omega arith))
     (λ k. rw (reached_short room at n k) (omega arith))
 
+-- What setting a byte does, before the room's end and past it.
+pub ruleset byte_told = (reached_fits, reached_short, set_out)
+
 -- ---- Pieces.
 
 module _ {xs room left : List ℕ} {at r : ℕ} (p : PutText xs room at left r) where
@@ -114,16 +117,27 @@ pub record Goes (rest room : List ℕ) (at : ℕ) (whole lent : List ℕ) (from 
 pub goes_all : (whole lent : List ℕ) (from : ℕ) → Goes whole lent from whole lent from
 goes_all whole lent from = record { same_room = refl; same_place = refl; kept = refl }
 
--- Past the room's end every place is as good as another.
-pub goes_past : (whole lent : List ℕ) (at from : ℕ) → length lent < at → length lent < from → Goes whole lent at whole lent from
-goes_past whole lent at from h k =
-    record {
-      same_room = bytes_past lent at whole (omega arith) ∙ sym (bytes_past lent from whole (omega arith));
-      same_place =
-          reached_short (length lent) at (length whole) (omega arith) ∙
-          sym (reached_short (length lent) from (length whole) (omega arith));
-      kept = refl;
-    }
+-- Past the room's end every place is as good as the one right behind it.
+pub goes_near : (whole lent : List ℕ) (from : ℕ) → Goes whole lent (min from (length lent + 1)) whole lent from
+goes_near whole lent from = either from (length lent + 1) Near near far
+  where
+    Near : Type 0
+    Near = Goes whole lent (min from (length lent + 1)) whole lent from
+
+    near : from ≤ length lent + 1 → Near
+    near h = let same : min from (length lent + 1) ≡ from = omega arith in rw same (goes_all whole lent from)
+
+    far : length lent + 1 < from → Near
+    far h =
+        let end : min from (length lent + 1) ≡ length lent + 1 = omega arith in
+        rw end
+        record {
+          same_room = bytes_past lent (length lent + 1) whole (omega arith) ∙ sym (bytes_past lent from whole (omega arith));
+          same_place =
+              reached_short (length lent) (length lent + 1) (length whole) (omega arith) ∙
+              sym (reached_short (length lent) from (length whole) (omega arith));
+          kept = refl;
+        }
 
 pub goes_on : {xs ys room left whole lent : List ℕ} {at r from : ℕ} →
     Goes (xs ++ ys) room at whole lent from → PutText xs room at left r → Goes ys left r whole lent from

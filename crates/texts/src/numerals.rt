@@ -7,6 +7,7 @@ ghost use Rattle.texts.specs.Numerals.{glyph, decimal_of, signed_text, hex_of, c
 use crate::room;
 
 // The byte of a digit below 16.
+#[tactic(auto, unfolding(crate::specs::Numerals::glyph))]
 fn glyph_of(d: u64) -> u8
     requires { d < 16 }
     ensures { result ≡ glyph d }
@@ -44,9 +45,7 @@ fn put_hex(out: &mut [u8], at: usize, w: u64) -> usize
     ensures { PutText (hex_of w) out.old at out.new result }
 {
     let mut next = at;
-    let mut k = 16u64;
-    while k > 0 {
-        k -= 1;
+    for k in (0..16u64).rev() {
         next = room::put_byte(out, next, glyph_of((w >> (4 * k)) % 16));
     }
     next

@@ -10,18 +10,18 @@ use Rattle.floats.proofs.Bounds.{within_of_bounds}
 use Rattle.times.specs.Time.{is_exact, two_to_53, span_between, span_sum, instant_after, span_of_seconds, instant_of_seconds}
 use Rattle.times.specs.declared.time.TimePoint.{TimePoint}
 use Rattle.times.specs.declared.time.Duration.{Duration}
-use Rattle.times.specs.declared.time.Instant.TheVariants as I
-use Rattle.times.specs.declared.time.Span.{Span}
-use Rattle.times.specs.declared.time.Span.TheVariants as S
 use Rattle.times.proofs.Exact.{both}
 use Rattle.times.proofs.Cut.{product, nanoseconds_of, cut_exact}
+use Rattle.std.specs.Prelude.{Result, Ok, Err}
+use Rattle.times.specs.Time.{strayed}
+use Rattle.times.specs.declared.time.Strayed.{Strayed}
 
 -- A tested answer that is no refusal: the test held, and the number is the tested one.
-span_held : (t : Bool) (z : ℤ) (d : Duration) → cond t (S.Of (record { 0 = z })) S.Strayed ≡ S.Of d → (t ≡ true) × (z ≡ d.0)
+span_held : (t : Bool) (z : ℤ) (d : Duration) → cond t (Ok (record { 0 = z })) strayed ≡ Ok d → (t ≡ true) × (z ≡ d.0)
 span_held true z d e = (refl, cc)
 span_held false z d e = (cc, cc)
 
-instant_held : (t : Bool) (z : ℤ) (u : TimePoint) → cond t (I.At (record { 0 = z })) I.Strayed ≡ I.At u → (t ≡ true) × (z ≡ u.0)
+instant_held : (t : Bool) (z : ℤ) (u : TimePoint) → cond t (Ok (record { 0 = z })) strayed ≡ Ok u → (t ≡ true) × (z ≡ u.0)
 instant_held true z u e = (refl, cc)
 instant_held false z u e = (cc, cc)
 
@@ -39,18 +39,18 @@ all_three x y made z (held, same) =
     record { first = outer.0; second = inner.0; result = ap is_exact (sym same) ∙ inner.1; number = same }
 
 pub span_made : (earlier later : TimePoint) (d : Duration) →
-    span_between earlier later ≡ S.Of d → Made later.0 earlier.0 (later.0 -ℤ earlier.0) d.0
+    span_between earlier later ≡ Ok d → Made later.0 earlier.0 (later.0 -ℤ earlier.0) d.0
 unfolding span_between
 span_made earlier later d e =
     all_three later.0 earlier.0 (later.0 -ℤ earlier.0) d.0 (span_held _ (later.0 -ℤ earlier.0) d e)
 
 pub instant_made : (t : TimePoint) (d : Duration) (u : TimePoint) →
-    instant_after t d ≡ I.At u → Made t.0 d.0 (t.0 +ℤ d.0) u.0
+    instant_after t d ≡ Ok u → Made t.0 d.0 (t.0 +ℤ d.0) u.0
 unfolding instant_after
 instant_made t d u e = all_three t.0 d.0 (t.0 +ℤ d.0) u.0 (instant_held _ (t.0 +ℤ d.0) u e)
 
 pub sum_made : (first second sum : Duration) →
-    span_sum first second ≡ S.Of sum → Made first.0 second.0 (first.0 +ℤ second.0) sum.0
+    span_sum first second ≡ Ok sum → Made first.0 second.0 (first.0 +ℤ second.0) sum.0
 unfolding span_sum
 sum_made first second sum e =
     all_three first.0 second.0 (first.0 +ℤ second.0) sum.0 (span_held _ (first.0 +ℤ second.0) sum e)
@@ -60,31 +60,31 @@ pub record Converted (s : Float) (z : ℤ) : Type 0 where
   pub between : Within two_to_53 (product s)
   pub number : nanoseconds_of s ≡ z
 
-pub span_converted : (s : Float) (d : Duration) → span_of_seconds s ≡ S.Of d → Converted s d.0
+pub span_converted : (s : Float) (d : Duration) → span_of_seconds s ≡ Ok d → Converted s d.0
 unfolding span_of_seconds
 span_converted s d e =
     let held = span_held (Ieee.le (Ieee.neg two_to_53) (product s) && Ieee.le (product s) two_to_53) (nanoseconds_of s) d e in
     let tests = both (Ieee.le (Ieee.neg two_to_53) (product s)) (Ieee.le (product s) two_to_53) held.0 in
     record { between = within_of_bounds two_to_53 (product s) (passed tests.0) (passed tests.1); number = held.1 }
 
-pub span_of_seconds_exact : (s : Float) (d : Duration) → span_of_seconds s ≡ S.Of d → is_exact d.0 ≡ true
+pub span_of_seconds_exact : (s : Float) (d : Duration) → span_of_seconds s ≡ Ok d → is_exact d.0 ≡ true
 span_of_seconds_exact s d e =
     let made = span_converted s d e in ap is_exact (sym made.number) ∙ cut_exact (product s) made.between
 
-pub instant_of_seconds_exact : (s : Float) (u : TimePoint) → instant_of_seconds s ≡ I.At u → is_exact u.0 ≡ true
+pub instant_of_seconds_exact : (s : Float) (u : TimePoint) → instant_of_seconds s ≡ Ok u → is_exact u.0 ≡ true
 unfolding instant_of_seconds
 instant_of_seconds_exact s u e = by (span_of_seconds s) refl
   where
-    by : (x : Span) → span_of_seconds s ≡ x → is_exact u.0 ≡ true
-    by (S.Of d) q = let same : d.0 ≡ u.0 = cc (rw q at e) in ap is_exact (sym same) ∙ span_of_seconds_exact s d q
-    by S.Strayed q = cc (rw q at e)
+    by : (x : Result Duration Strayed) → span_of_seconds s ≡ x → is_exact u.0 ≡ true
+    by (Ok d) q = let same : d.0 ≡ u.0 = cc (rw q at e) in ap is_exact (sym same) ∙ span_of_seconds_exact s d q
+    by (Err _) q = cc (rw q at e)
 
 there_and_back : (x y : ℤ) → y +ℤ (x -ℤ y) ≡ x
 there_and_back x y = +ℤ_comm y (x -ℤ y) ∙ -ℤ-+ℤ_cancel x y
 
 -- The span from one instant to another, put after the one, leads to the other.
 pub after_between : (earlier later : TimePoint) (d : Duration) →
-    span_between earlier later ≡ S.Of d → instant_after earlier d ≡ I.At later
+    span_between earlier later ≡ Ok d → instant_after earlier d ≡ Ok later
 unfolding instant_after
 after_between earlier later d e =
     let made = span_made earlier later d e in

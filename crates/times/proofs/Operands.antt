@@ -1,40 +1,56 @@
--- Two numbers and what is made of them, as `since` and `plus` test them: both exact, and then the result.
+-- Two numbers and what is made of them, as `since` and `plus` test them: each exact, and then the result.
 -- Assumes nothing.
-use Rattle.std.proofs.Common.{◌≡◌, Bool, true, false, not, ◌&&◌, ℤ, sym, ap, ◌∙◌, w64, SFits}
-use mathlib.Core.Bool.{and_assoc}
-use borrow.Author.Tests.{not-true, not-false}
-use Rattle.times.specs.Time.{is_exact}
+use Rattle.std.proofs.Common.{◌≡◌, Bool, true, false, cond, ◌&&◌, ℤ, sym, refl, ap, ◌∙◌, w64, SFits, Result, Ok, Err}
+use Rattle.std.specs.Result.{IsErr}
+use Rattle.times.specs.Time.{is_exact, exact, strayed}
+use Rattle.times.specs.declared.time.Strayed.{Strayed}
 use Rattle.number_words.proofs.ReadBack.{read, read_back}
 
--- `found` was found of x and y as they are read; where both are exact, the result fits 64 bits.
-pub record Operands (op : ℤ → ℤ → ℤ) (x y : ℤ) (found : Bool) : Type 0 where
+-- There is one way to be refused.
+pub only_strayed : {A : Type 0} (r : Result A Strayed) → IsErr r → r ≡ strayed
+only_strayed (Ok a) e = cc
+only_strayed (Err e) h = refl
+
+not_told : (z : ℤ) (b : Bool) (e : Strayed) → cond b (Ok z) strayed ≡ Err e → b ≡ false
+not_told z true e p = cc
+not_told z false e p = refl
+
+told : (z y : ℤ) (b : Bool) → cond b (Ok z) strayed ≡ Ok y → (b ≡ true) × (y ≡ z)
+told z y true p = (refl, cc)
+told z y false p = (cc, cc)
+
+-- What a test said of a number as it was read is so of the number.
+pub one_out : {z : ℤ} → SFits w64 z → {r : Result ℤ Strayed} {e : Strayed} → r ≡ exact (read z) → r ≡ Err e → is_exact z ≡ false
+one_out {z} f {r} {e} p q = not_told z (is_exact z) e (rw (read_back z f) at (sym p ∙ q))
+
+pub one_held : {z y : ℤ} → SFits w64 z → {r : Result ℤ Strayed} → r ≡ exact (read z) → r ≡ Ok y → (is_exact z ≡ true) × (y ≡ z)
+one_held {z} {y} f {r} p q = told z y (is_exact z) (rw (read_back z f) at (sym p ∙ q))
+
+-- Both were found exact, and the result is made of them.
+pub record Operands (op : ℤ → ℤ → ℤ) (x y a b : ℤ) : Type 0 where
   pub fits_first : SFits w64 x
   pub fits_second : SFits w64 y
   pub fits_result : (is_exact x && is_exact y) ≡ true → SFits w64 (op x y)
-  pub told : found ≡ (is_exact (read x) && is_exact (read y))
+  pub first : (is_exact x ≡ true) × (a ≡ x)
+  pub second : (is_exact y ≡ true) × (b ≡ y)
 
-module _ {op : ℤ → ℤ → ℤ} {x y : ℤ} {found : Bool} (o : Operands op x y found) where
-  both : (is_exact x && is_exact y) ≡ found
-  both = sym (rw (read_back x o.fits_first, read_back y o.fits_second) at o.told)
+module _ {op : ℤ → ℤ → ℤ} {x y a b : ℤ} (o : Operands op x y a b) where
+  result_fits : SFits w64 (op x y)
+  result_fits = o.fits_result (rw (o.first.0, o.second.0))
 
-  result_fits : not found ≡ false → SFits w64 (op x y)
-  result_fits left = o.fits_result (both ∙ not-false found left)
+  read_is : op (read a) (read b) ≡ op x y
+  read_is = rw (o.first.1, o.second.1, read_back x o.fits_first, read_back y o.fits_second)
 
-  pub read_fits : not found ≡ false → SFits w64 (op (read x) (read y))
-  read_fits left = rw (read_back x o.fits_first, read_back y o.fits_second) (result_fits left)
+  pub read_fits : SFits w64 (op (read a) (read b))
+  read_fits = rw (read_is) result_fits
 
-  pub result_back : not found ≡ false → read (op (read x) (read y)) ≡ op x y
-  result_back left =
-      rw (read_back x o.fits_first, read_back y o.fits_second, read_back (op x y) (result_fits left))
+  pub result_out : {r : Result ℤ Strayed} {e : Strayed} →
+      r ≡ exact (read (op (read a) (read b))) → r ≡ Err e → is_exact (op x y) ≡ false
+  result_out p q = one_out result_fits (p ∙ ap (λ z. exact (read z)) read_is) q
 
-  pub one_out : not found ≡ true → (is_exact x && (is_exact y && is_exact (op x y))) ≡ false
-  one_out taken = rw (← and_assoc (is_exact x) (is_exact y) (is_exact (op x y)), both ∙ not-true found taken)
+  pub result_held : {r : Result ℤ Strayed} {z : ℤ} →
+      r ≡ exact (read (op (read a) (read b))) → r ≡ Ok z → (is_exact (op x y) ≡ true) × (z ≡ op x y)
+  result_held p q = one_held result_fits (p ∙ ap (λ z. exact (read z)) read_is) q
 
-  -- Where both are exact, the last test alone decides.
-  pub decided : {last : Bool} →
-      not found ≡ false →
-      last ≡ is_exact (read (op (read x) (read y))) →
-      (is_exact x && (is_exact y && is_exact (op x y))) ≡ last
-  decided left e =
-      rw (← and_assoc (is_exact x) (is_exact y) (is_exact (op x y)), both ∙ not-false found left)
-      (sym (e ∙ ap is_exact (result_back left)))
+  pub read_result : {z : ℤ} → z ≡ op x y → read z ≡ op x y
+  read_result e = ap read e ∙ read_back (op x y) result_fits

@@ -7,11 +7,12 @@ use Rattle.floats.proofs.Tests.{passed, failed}
 use Rattle.times.specs.Time.{is_exact, span_between, instant_after, later_of, earlier_of}
 use Rattle.times.specs.declared.time.TimePoint.{TimePoint}
 use Rattle.times.specs.declared.time.Duration.{Duration}
-use Rattle.times.specs.declared.time.Instant.TheVariants as I
-use Rattle.times.specs.declared.time.Span.TheVariants as S
 use Rattle.times.proofs.Answers.{span_made, instant_made}
 use Rattle.times.proofs.Integers.{below→at-most, at_most_trans, sum_mono, neg_not_above}
 use Rattle.times.proofs.Integers.{difference_not_below, size_at_most}
+use Rattle.std.specs.Prelude.{Result, Ok, Err}
+use Rattle.times.specs.Time.{strayed}
+use Rattle.times.specs.declared.time.Strayed.{Strayed}
 
 -- v is one of t and u, and stands in an order to both.
 pub record Chosen (order : ℤ → ℤ → Type 0) (t u v : TimePoint) : Type 0 where
@@ -41,22 +42,22 @@ pub chosen_has : {order : ℤ → ℤ → Type 0} {t u v : TimePoint} (P : TimeP
 chosen_has P c p q = elim c.one_of [ inl e ↦ subst P (sym e) p | inr e ↦ subst P (sym e) q ]
 
 -- The span from an instant to one that is no earlier is not below zero.
-pub between_not_below : (t u : TimePoint) (d : Duration) → span_between t u ≡ S.Of d → t.0 ≤ℤ u.0 → pos 0 ≤ℤ d.0
+pub between_not_below : (t u : TimePoint) (d : Duration) → span_between t u ≡ Ok d → t.0 ≤ℤ u.0 → pos 0 ≤ℤ d.0
 between_not_below t u d e h = rw (span_made t u d e).number at (difference_not_below t.0 u.0 h)
 
 -- Between instants from the start to m ns after it a span is at most m.
 pub between_size : (t u : TimePoint) (d : Duration) (m : ℕ) →
-    span_between t u ≡ S.Of d → pos 0 ≤ℤ t.0 → t.0 ≤ℤ u.0 → u.0 ≤ℤ pos m → nat_abs d.0 ≤ m
+    span_between t u ≡ Ok d → pos 0 ≤ℤ t.0 → t.0 ≤ℤ u.0 → u.0 ≤ℤ pos m → nat_abs d.0 ≤ m
 between_size t u d m e low h high =
     let to-later : d.0 ≤ℤ u.0 =
     rw (+ℤ_idr, (span_made t u d e).number) at (sum_mono u.0 (neg_ℤ t.0) (pos 0) (neg_not_above t.0 low)) in
     size_at_most d.0 m (between_not_below t u d e h) (at_most_trans d.0 u.0 (pos m) to-later high)
 
 pub after_mono : (t : TimePoint) (d e : Duration) (u v : TimePoint) →
-    instant_after t d ≡ I.At u → instant_after t e ≡ I.At v → d.0 ≤ℤ e.0 → u.0 ≤ℤ v.0
+    instant_after t d ≡ Ok u → instant_after t e ≡ Ok v → d.0 ≤ℤ e.0 → u.0 ≤ℤ v.0
 after_mono t d e u v p q h =
     rw ((instant_made t d u p).number, (instant_made t e v q).number) at (sum_mono t.0 d.0 e.0 h)
 
 pub after_not_below : (t : TimePoint) (d : Duration) (u : TimePoint) →
-    instant_after t d ≡ I.At u → pos 0 ≤ℤ d.0 → t.0 ≤ℤ u.0
+    instant_after t d ≡ Ok u → pos 0 ≤ℤ d.0 → t.0 ≤ℤ u.0
 after_not_below t d u p h = rw (+ℤ_idr, (instant_made t d u p).number) at (sum_mono t.0 (pos 0) d.0 h)

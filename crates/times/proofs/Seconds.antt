@@ -20,9 +20,11 @@ use Rattle.floats.proofs.Bounds.{within_finite, within_le, within_mul, within_di
 use Rattle.floats.proofs.Sizes.{size_above, size_below}
 use Rattle.times.specs.Time.{is_exact, billion, two_to_53, seconds_of, span_of_seconds}
 use Rattle.times.specs.declared.time.Duration.{Duration}
-use Rattle.times.specs.declared.time.Span.TheVariants as S
 use Rattle.times.proofs.Cut.{product, nanoseconds_of}
 use Rattle.times.proofs.Answers.{span_converted}
+use Rattle.std.specs.Prelude.{Result, Ok, Err}
+use Rattle.times.specs.Time.{strayed}
+use Rattle.times.specs.declared.time.Strayed.{Strayed}
 
 -- ---- seconds of nanoseconds
 
@@ -78,10 +80,10 @@ pub nanoseconds_not_below : (s : Float) → T (le nought s) → pos 0 ≤ℤ nan
 nanoseconds_not_below s h = unfold Ieee.of_int Ieee.mul Ieee.to_signed in nanoseconds_mono nought s h
 
 pub span_mono : (s t : Float) (d e : Duration) →
-    span_of_seconds s ≡ S.Of d → span_of_seconds t ≡ S.Of e → T (le s t) → d.0 ≤ℤ e.0
+    span_of_seconds s ≡ Ok d → span_of_seconds t ≡ Ok e → T (le s t) → d.0 ≤ℤ e.0
 span_mono s t d e p q h = rw ((span_converted s d p).number, (span_converted t e q).number) at (nanoseconds_mono s t h)
 
-pub span_not_below : (s : Float) (d : Duration) → span_of_seconds s ≡ S.Of d → T (le nought s) → pos 0 ≤ℤ d.0
+pub span_not_below : (s : Float) (d : Duration) → span_of_seconds s ≡ Ok d → T (le nought s) → pos 0 ≤ℤ d.0
 span_not_below s d p h = rw (span_converted s d p).number at (nanoseconds_not_below s h)
 
 -- Seconds of at most 2^53 ns are given back, for 2^53 ns come back as they were.
@@ -122,7 +124,7 @@ product_within s h =
     subst (λ (c : Float). Within c (product s)) most_back
     (within_mul binary64 {d = billion} h billion_within most_finite billion_finite)
 
-pub span_given : (s : Float) → Within most_seconds s → span_of_seconds s ≡ S.Of (record { 0 = nanoseconds_of s })
+pub span_given : (s : Float) → Within most_seconds s → span_of_seconds s ≡ Ok (record { 0 = nanoseconds_of s })
 unfolding span_of_seconds
 span_given s h =
     let p = product_within s h in

@@ -12,9 +12,12 @@ use Rattle.floats.proofs.Monotone.{mul_mono_behind}
 use Rattle.floats.proofs.Whole.{to_signed_mono}
 use Rattle.floats.proofs.Bounds.{within_upper, within_of_upper}
 use Rattle.times.specs.Time.{is_exact, billion, seconds_of, span_of_seconds}
-use Rattle.times.specs.declared.time.Span.TheVariants as S
 use Rattle.times.proofs.Cut.{product, nanoseconds_of}
 use Rattle.times.proofs.Seconds.{most_seconds, seconds_within, nanoseconds_not_below, span_given}
+use Rattle.std.specs.Prelude.{Result, Ok, Err}
+use Rattle.times.specs.Time.{strayed}
+use Rattle.times.specs.declared.time.Strayed.{Strayed}
+use Rattle.times.specs.declared.time.Duration.{Duration}
 
 -- q / 2^31 is the least such fraction that is not below the seconds of n ns.
 module _
@@ -62,7 +65,7 @@ at_most_width n s few = back n ((n * 2 ^ 31 + 999999999) / 1000000000) few (omeg
 
 -- The seconds s come back as a span, from 0 to w.
 pub record InWidth (w : ℤ) (s : Float) : Type 0 where
-  pub given : span_of_seconds s ≡ S.Of (record { 0 = nanoseconds_of s })
+  pub given : span_of_seconds s ≡ Ok (record { 0 = nanoseconds_of s })
   pub not_below : pos 0 ≤ℤ nanoseconds_of s
   pub at_most : nanoseconds_of s ≤ℤ w
 

@@ -1,51 +1,46 @@
 // Instants and spans: two kinds of whole nanoseconds that do not mix (docs/RULES.md, section 6).
-ghost use Rattle.std.specs.Prelude.{◌≡◌, ◌&&◌, int_lt};
-ghost use Rattle.times.specs.Time.{is_exact, span_between, instant_after, later_of, earlier_of};
+ghost use Rattle.std.specs.Prelude.{◌≡◌, int_lt};
+ghost use Rattle.refusals.specs.declared.Refusal.TheVariants as Refusals;
+ghost use Rattle.times.specs.Time.{is_exact, exact, span_between, instant_after, later_of, earlier_of};
 ghost use Rattle.times.specs.Time.{instant_after_seconds, seconds_of, span_sum, span_of_seconds, instant_of_seconds};
 
+use refusals::Refusal;
+
 // An instant: nanoseconds since the start.
-#[derive(Clone, Copy)]
+#[derive(Clone, Copy, Debug, PartialEq, Eq, PartialOrd, Ord)]
 pub struct TimePoint(pub i64);
 
 // A span: nanoseconds from one instant to another.
-#[derive(Clone, Copy)]
+#[derive(Clone, Copy, Debug, PartialEq, Eq, PartialOrd, Ord)]
 pub struct Duration(pub i64);
 
-// An instant, or refusal 7.
-#[derive(Clone, Copy)]
-pub enum Instant {
-    At(TimePoint),
-    Strayed,
+// A time passes 2^53 ns in size: refusal 7.
+#[derive(Clone, Copy, Debug, PartialEq, Eq)]
+pub struct Strayed;
+
+impl From<Strayed> for Refusal {
+    ghost from_gives = { λ _ why. why ≡ Refusals.Strayed };
+
+    fn from(_why: Strayed) -> Refusal {
+        Refusal::Strayed
+    }
 }
 
-// A span, or refusal 7.
-#[derive(Clone, Copy)]
-pub enum Span {
-    Of(Duration),
-    Strayed,
-}
+// The most nanoseconds in size that an instant or a span may have: 2^53.
+const MOST: u64 = 9007199254740992;
 
 // Whether a number of nanoseconds is at most 2^53 in size.
 fn is_exact(ns: i64) -> bool
     ensures { result ≡ is_exact ns }
 {
-    if ns < -9007199254740992 {
-        return false;
-    }
-    if ns > 9007199254740992 {
-        return false;
-    }
-    true
+    ns.unsigned_abs() <= MOST
 }
 
-// Whether both of two numbers are, as an operation on times asks first.
-fn both_exact(x: i64, y: i64) -> bool
-    ensures { result ≡ (is_exact x && is_exact y) }
+// The number itself, where it is.
+fn exact(ns: i64) -> Result<i64, Strayed>
+    ensures { result ≡ exact ns }
 {
-    if !is_exact(x) {
-        return false;
-    }
-    is_exact(y)
+    if is_exact(ns) { Ok(ns) } else { Err(Strayed) }
 }
 
 // The seconds of a number of nanoseconds: one rounding to a double, one for the division.
@@ -57,46 +52,26 @@ fn seconds_of(ns: i64) -> f64
 
 impl TimePoint {
     // The span from an earlier instant to this one; below zero where `earlier` is the later.
-    pub fn since(self, earlier: TimePoint) -> Span
+    pub fn since(self, earlier: TimePoint) -> Result<Duration, Strayed>
         ensures { result ≡ span_between earlier self }
     {
-        let x = self.0;
-        let y = earlier.0;
-        if !both_exact(x, y) {
-            return Span::Strayed;
-        }
-        let d = x - y;
-        if !is_exact(d) {
-            return Span::Strayed;
-        }
-        Span::Of(Duration(d))
+        let d = exact(self.0)? - exact(earlier.0)?;
+        Ok(Duration(exact(d)?))
     }
 
     // The instant a span after this one.
-    pub fn plus(self, d: Duration) -> Instant
+    pub fn plus(self, d: Duration) -> Result<TimePoint, Strayed>
         ensures { result ≡ instant_after self d }
     {
-        let x = self.0;
-        let y = d.0;
-        if !both_exact(x, y) {
-            return Instant::Strayed;
-        }
-        let t = x + y;
-        if !is_exact(t) {
-            return Instant::Strayed;
-        }
-        Instant::At(TimePoint(t))
+        let t = exact(self.0)? + exact(d.0)?;
+        Ok(TimePoint(exact(t)?))
     }
 
     // The instant a number of seconds after this one.
-    pub fn plus_secs_f64(self, seconds: f64) -> Instant
+    pub fn plus_secs_f64(self, seconds: f64) -> Result<TimePoint, Strayed>
         ensures { result ≡ instant_after_seconds self seconds }
     {
-        let span = Duration::from_secs_f64(seconds);
-        let Span::Of(d) = span else {
-            return Instant::Strayed;
-        };
-        self.plus(d)
+        self.plus(Duration::from_secs_f64(seconds)?)
     }
 
     // Whether it is at most 2^53 ns in size, as every instant must be that a call works out.
@@ -110,23 +85,21 @@ impl TimePoint {
     pub fn is_before(self, other: TimePoint) -> bool
         ensures { result ≡ int_lt self.0 other.0 }
     {
-        let t = self.0;
-        let u = other.0;
-        t < u
+        self < other
     }
 
     // The later of two instants.
     pub fn max(self, other: TimePoint) -> TimePoint
         ensures { result ≡ later_of self other }
     {
-        if self.is_before(other) { other } else { self }
+        if self < other { other } else { self }
     }
 
     // The earlier of two instants.
     pub fn min(self, other: TimePoint) -> TimePoint
         ensures { result ≡ earlier_of self other }
     {
-        if other.is_before(self) { other } else { self }
+        if other < self { other } else { self }
     }
 
     pub fn as_secs_f64(self) -> f64
@@ -136,14 +109,11 @@ impl TimePoint {
     }
 
     // The instant that many seconds after the start.
-    pub fn from_secs_f64(seconds: f64) -> Instant
+    pub fn from_secs_f64(seconds: f64) -> Result<TimePoint, Strayed>
         ensures { result ≡ instant_of_seconds seconds }
     {
-        let s = Duration::from_secs_f64(seconds);
-        let Span::Of(d) = s else {
-            return Instant::Strayed;
-        };
-        Instant::At(TimePoint(d.0))
+        let d = Duration::from_secs_f64(seconds)?;
+        Ok(TimePoint(d.0))
     }
 }
 
@@ -156,28 +126,18 @@ impl Duration {
     }
 
     // The sum of two spans.
-    pub fn plus(self, other: Duration) -> Span
+    pub fn plus(self, other: Duration) -> Result<Duration, Strayed>
         ensures { result ≡ span_sum self other }
     {
-        let x = self.0;
-        let y = other.0;
-        if !both_exact(x, y) {
-            return Span::Strayed;
-        }
-        let d = x + y;
-        if !is_exact(d) {
-            return Span::Strayed;
-        }
-        Span::Of(Duration(d))
+        let d = exact(self.0)? + exact(other.0)?;
+        Ok(Duration(exact(d)?))
     }
 
     // Whether this span is below another, by the sign too.
     pub fn is_below(self, other: Duration) -> bool
         ensures { result ≡ int_lt self.0 other.0 }
     {
-        let d = self.0;
-        let e = other.0;
-        d < e
+        other > self
     }
 
     pub fn as_secs_f64(self) -> f64
@@ -187,15 +147,13 @@ impl Duration {
     }
 
     // The nanoseconds of a number of seconds: one product, cut toward zero.
-    pub fn from_secs_f64(seconds: f64) -> Span
+    pub fn from_secs_f64(seconds: f64) -> Result<Duration, Strayed>
         ensures { result ≡ span_of_seconds seconds }
     {
         let p = seconds * 1e9;
-        if p >= -9007199254740992.0 {
-            if p <= 9007199254740992.0 {
-                return Span::Of(Duration(std::num::truncating_f64_to_i64(p)));
-            }
+        if -9007199254740992.0 <= p && p <= 9007199254740992.0 {
+            return Ok(Duration(std::num::truncating_f64_to_i64(p)));
         }
-        Span::Strayed
+        Err(Strayed)
     }
 }

@@ -3,16 +3,11 @@
 use Rattle.arrival_times.proofs.Telling.{told_failed, told_short, told_all}
 use Rattle.arrival_times.proofs.listing.compute_safe_arrival_times.Goals as goal
 
-pub returns-then-list-count : goal.returns-then-list-count
-returns-then-list-count c =
-    told_short c.search_times-found.ensures c.in-Listed.count c.in-Listed.sweeps c.in-Listed.is
-    c.if-list-count.true c.wipe_times-then-list-count.ensures
+pub returns-then-list-found : goal.returns-then-list-found
+returns-then-list-found c = told_short c.search_times.ensures c.in-Ok.is c.if-list-found.true c.wipe_times.ensures
 
-pub returns-in-Refused : goal.returns-in-Refused
-returns-in-Refused c =
-    told_failed c.search_times-found.ensures c.in-Refused.n c.in-Refused.is c.wipe_times.ensures
+pub returns-else-list-found : goal.returns-else-list-found
+returns-else-list-found c = told_all c.search_times.ensures c.in-Ok.is c.if-list-found.false c.wipe_times-in-Ok.ensures
 
-pub returns-else-list-count : goal.returns-else-list-count
-returns-else-list-count c =
-    told_all c.search_times-found.ensures c.in-Listed.count c.in-Listed.sweeps c.in-Listed.is
-    c.if-list-count.false c.wipe_times-in-Listed.ensures
+pub returns-in-Err : goal.returns-in-Err
+returns-in-Err c = told_failed c.search_times.ensures c.in-Err.is c.wipe_times-in-Err.ensures

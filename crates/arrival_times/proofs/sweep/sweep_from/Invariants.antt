@@ -1,6 +1,6 @@
 -- `arrival_times::sweep::sweep_from` meets its contract: at each turn the sweep from here on, at this candidate, is the whole one.
 -- Assumes nothing.
-use Prim.Native.Nat.{ℕ, ◌-◌}
+use Prim.Native.Nat.{ℕ}
 use mathlib.Core.Path.{◌≡◌}
 use mathlib.Core.Bool.{false}
 use Rattle.lent.specs.Listed.{listed_to}
@@ -15,6 +15,3 @@ invariant-loop-o l =
     let f : ℕ → Obstacle = obstacle_in l.marks l.places in
     sweep (view_at l.place) l.candidate l.pushed (watched_all l.p (listed_to f l.count l.o)) ≡
     sweep (view_at l.place) l.initial.candidate false (watched_all l.p (obstacles_in l.marks l.places))
-
-abbrev pub decreases-loop-o : goal.decreases-loop-o
-decreases-loop-o l = l.count - l.o

@@ -1,21 +1,18 @@
--- `hint_following::follow::open` meets its contract: the rounds, behind the first wait where there is one and it was not refused.
+-- `hint_following::follow::open` meets its contract: the rounds follow the first wait where it was not refused.
 -- Assumes nothing.
+use Rattle.std.proofs.Common.{rules, ◌≡◌}
+use Rattle.std.specs.Prelude.{Err}
 use Rattle.hint_list.proofs.Added.{added_then, added_ended}
 use Rattle.hint_following.specs.Follow.{opened}
 use Rattle.hint_following.proofs.follow.open.Goals as goal
 
-pub returns-in_default : goal.returns-in_default
+pub returns-in_err-m-in-Waits : goal.returns-in_err-m-in-Waits
 unfolding opened
-returns-in_default c =
-    let refused = rw c.in_default.is at c.with_stop-filled.ensures in
-    rw (c.in-Waits.is, c.in_default.is) (added_ended _ _ _ _ refused)
+returns-in_err-m-in-Waits c =
+    let refused : c.from_residual.result ≡ Err c.in_err-m-in-Waits.field-0.0 = search rules in
+    rw (c.in-Waits.is, refused) (added_ended _ _ _ _ c.in_err-m-in-Waits.ensures)
 
-pub returns-in-Goes : goal.returns-in-Goes
+pub returns-in_ok-m-in-Waits : goal.returns-in_ok-m-in-Waits
 unfolding opened
-returns-in-Goes c = rw c.in-Goes.is c.rounds.ensures
-
-pub returns-in-Of : goal.returns-in-Of
-unfolding opened
-returns-in-Of c =
-    let stored = rw c.in-Of.is at c.with_stop-filled.ensures in
-    rw c.in-Waits.is (added_then _ _ _ _ stored c.rounds-in-Waits.ensures)
+returns-in_ok-m-in-Waits c =
+    rw c.in-Waits.is (added_then _ _ _ _ c.in_ok-m-in-Waits.ensures c.rounds-in-Waits.ensures)

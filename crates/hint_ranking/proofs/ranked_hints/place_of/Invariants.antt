@@ -1,6 +1,6 @@
 -- `hint_ranking::ranked_hints::place_of` meets its contract: the hints passed and the place among the others make the place.
 -- Assumes nothing.
-use Prim.Native.Nat.{◌+◌, ◌-◌, ◌≤◌}
+use Prim.Native.Nat.{◌+◌}
 use mathlib.Core.Path.{◌≡◌}
 use lib.ListN.{take, drop}
 use Rattle.hint_list.specs.Words.{hints_in}
@@ -8,7 +8,4 @@ use Rattle.hint_ranking.specs.Hints.{rank_of}
 use Rattle.hint_ranking.proofs.ranked_hints.place_of.Given as goal
 
 abbrev pub invariant-loop-i : goal.invariant-loop-i
-invariant-loop-i l = (l.i ≤ l.n) × (l.i + rank_of l.h (drop l.i (take l.n (hints_in l.hints))) ≡ rank_of l.h (take l.n (hints_in l.hints)))
-
-abbrev pub decreases-loop-i : goal.decreases-loop-i
-decreases-loop-i l = l.n - l.i
+invariant-loop-i l = l.i + rank_of l.h (drop l.i (take l.n (hints_in l.hints))) ≡ rank_of l.h (take l.n (hints_in l.hints))

@@ -7,7 +7,4 @@ use Rattle.hint_ranking.proofs.Places.{HasGap}
 use Rattle.hint_ranking.proofs.ranked_hints.put_in_rank.Given as goal
 
 abbrev pub invariant-loop-j : goal.invariant-loop-j
-invariant-loop-j l = (l.at ≤ l.j) × (l.j ≤ l.n) × HasGap l.initial.hints (take l.n (hints_in l.initial.hints)) l.j l.hints
-
-abbrev pub decreases-loop-j : goal.decreases-loop-j
-decreases-loop-j l = l.j
+invariant-loop-j l = (l.at ≤ l.j) × HasGap l.initial.hints (take l.n (hints_in l.initial.hints)) l.j l.hints

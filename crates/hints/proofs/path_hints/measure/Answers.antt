@@ -5,15 +5,10 @@ use Rattle.hints.specs.Contour.{measured_by}
 use Rattle.hints.proofs.Found.{found_hints, ranked_words_law}
 use Rattle.hints.proofs.path_hints.measure.Goals as goal
 
-pub returns-in-Refused : goal.returns-in-Refused
+pub returns-in-Ok : goal.returns-in-Ok
 unfolding measured_by
-returns-in-Refused c hs added =
-    rw (sym c.scale_of-scaling.ensures ∙ c.in-Refused.is) c.refuse.ensures
-
-pub returns-in-By : goal.returns-in-By
-unfolding measured_by
-returns-in-By c hs added =
+returns-in-Ok c hs added =
     let a = c.args in
     let found = found_hints hs a.n a.hints.now added in
-    rw (sym c.scale_of-scaling.ensures ∙ c.in-By.is)
+    rw (sym c.scale_of.ensures ∙ c.in-Ok.is)
     (ranked_words_law hs a.n a.hints.now added _ c.rank.new.hints c.rank.result (rw found at c.rank.ensures))

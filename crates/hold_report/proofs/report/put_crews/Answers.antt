@@ -11,15 +11,6 @@ pub loop-crew-init : goal.loop-crew-init
 unfolding crews_told
 loop-crew-init c = let a = c.args in (goes_all (crews_told a.figures.now 64 0) a.out.now a.at, omega arith)
 
-pub put_crew-next-requires : goal.put_crew-next-requires
-put_crew-next-requires c = omega arith
-
-pub overflow_add-crew : goal.overflow_add-crew
-overflow_add-crew c = omega arith
-
-pub loop-crew-smaller : goal.loop-crew-smaller
-loop-crew-smaller c = omega arith
-
 pub loop-crew-preserved : goal.loop-crew-preserved
 unfolding words_in
 loop-crew-preserved c =
@@ -28,9 +19,6 @@ loop-crew-preserved c =
     let told : ℕ → List ℕ = crew_told a.figures.now in
     let put = c.put_crew-next.ensures in
     (goes_on (rw (listed_next told 64 l.crew (omega arith)) at l.invariant.0) put, put_within put)
-
-pub shape_of-out : goal.shape_of-out
-shape_of-out c = c.loop-crew.invariant.0.kept
 
 pub returns : goal.returns
 unfolding words_in

@@ -1,6 +1,6 @@
 -- `hold_report::report::put_crews` meets its contract: at each turn, the lines from this crew on put from here are all.
 -- Assumes nothing.
-use Rattle.std.proofs.Common.{◌+◌, ◌-◌, ◌≤◌, length}
+use Rattle.std.proofs.Common.{◌+◌, ◌≤◌, length}
 use Rattle.lent.specs.Listed.{listed_to}
 use Rattle.lent.specs.Rows.{words_in}
 use Rattle.texts.proofs.Putting.{Goes}
@@ -9,6 +9,3 @@ use Rattle.hold_report.proofs.report.put_crews.Given as goal
 
 abbrev pub invariant-loop-crew : goal.invariant-loop-crew
 invariant-loop-crew l = Goes (words_in (listed_to (crew_told l.figures) 64 l.crew)) l.out l.next (crews_told l.figures 64 0) l.initial.out l.at × (l.next ≤ length l.out + 1)
-
-abbrev pub decreases-loop-crew : goal.decreases-loop-crew
-decreases-loop-crew l = 64 - l.crew

@@ -1,21 +1,13 @@
 -- `hold_report::report::put_mean` meets its contract: mean and remainder, by the sign of the total.
 -- Assumes nothing.
-use Rattle.std.proofs.Common.{◌≡◌, ◌+◌, ◌-◌, ◌/◌, ◌^◌, mod-lt, div-le_self, arith}
+use Rattle.std.proofs.Common.{◌≡◌, ◌+◌, ◌-◌, ◌/◌, ◌^◌, div-le_self, arith}
 use Rattle.texts.proofs.Putting.{put_both}
 use Rattle.hold_report.proofs.Lowered.{mean_below, mean_above, remainder_below, remainder_above}
 use Rattle.hold_report.proofs.report.put_mean.Goals as goal
 
-pub overflow_add-size : goal.overflow_add-size
-overflow_add-size c =
-    let a = c.args in omega (arith, div-le_self (9223372036854775807 - a.total) a.rounds)
-
-pub overflow_sub-rounds-then-total-lt9223372036854775808 : goal.overflow_sub-rounds-then-total-lt9223372036854775808
-overflow_sub-rounds-then-total-lt9223372036854775808 c =
-    omega (arith, mod-lt (9223372036854775807 - c.args.total) c.requires)
-
-pub returns-then-total-lt9223372036854775808 : goal.returns-then-total-lt9223372036854775808
-returns-then-total-lt9223372036854775808 c =
-    let word = c.wrapping_sub_u64 in
+pub returns-then-total-lt-RAISE : goal.returns-then-total-lt-RAISE
+returns-then-total-lt-RAISE c =
+    let word = c.wrapping_neg in
     let a = c.args in
     let known : word.result ≡ 2 ^ 64 - ((9223372036854775807 - a.total) / a.rounds + 1) =
     omega (arith, word.ensures, div-le_self (9223372036854775807 - a.total) a.rounds)

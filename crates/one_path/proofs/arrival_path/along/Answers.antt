@@ -1,6 +1,9 @@
 -- `one_path::arrival_path::along` meets its contract: two actions for each hint and the last move, or a refusal.
 -- Assumes nothing.
 use Prim.Native.Nat.{◌≤◌}
+use mathlib.Core.Path.{◌≡◌}
+use Rattle.std.specs.Prelude.{Err}
+use Rattle.std.proofs.Common.{rules}
 use native.Mathlib.Omega.{arith}
 use Rattle.hint_list.specs.Words.{hints_in}
 use Rattle.path_search.specs.Links.{links_in}
@@ -28,14 +31,16 @@ along c =
     let a = c.args in
     built a.trip a.trip.leg.start unheld (hints_at (hints_in a.hints.now) (links_in a.chain.now))
 
-pub returns-in-Refused : goal.returns-in-Refused
+pub returns-in_err-hold : goal.returns-in_err-hold
 unfolding along_hints
-returns-in-Refused c =
-    along_refused (along (goal.at.returns-in-Refused c).After-links_of-n) c.args.pops c.build-hold.ensures _ c.in-Refused.is
+returns-in_err-hold c =
+    let refused : c.from_residual.result ≡ Err c.in_err-hold.field-0.0 = search rules in
+    rw refused
+    (along_refused (along (goal.at.returns-in_err-hold c).After-links_of-n) c.args.pops c.build.ensures _ c.in_err-hold.was)
 
-pub returns-in-Of : goal.returns-in-Of
+pub returns : goal.returns
 unfolding along_hints
-returns-in-Of c =
+returns c =
     let a = c.args in
     let counts = rw (← c.links_of-n.ensures) at (chain_counts a.trip (hints_in a.hints.now) (links_in a.chain.now)) in
-    along_found (along (goal.at.returns-in-Of c).After-links_of-n) a.pops c.build-hold.ensures _ _ counts c.in-Of.is
+    along_found (along (goal.at.returns c).After-links_of-n) a.pops c.build.ensures _ _ counts c.in_ok-hold.was

@@ -8,7 +8,6 @@ use lib.ListN.{length}
 use Rattle.table.specs.Table.{obstacles_in}
 use Rattle.hint_list.specs.Words.{hints_in}
 use Rattle.hint_list.proofs.Reading.{few, counted}
-use Rattle.path_search.specs.Handed.{first_index}
 use Rattle.path_search.proofs.Links.{chain_told}
 use Rattle.path_chains.specs.Trying.{chain_from}
 use Rattle.path_chains.proofs.Few.{chain_few}
@@ -29,26 +28,26 @@ some : (c : Else-count_of-eq0) →
     length (hints_in words) ≡ 0 → ⊥
 some c e = omega (arith, counted c.args.hints.now)
 
-pub returns-in-Refused : goal.returns-in-Refused
+pub returns-in-Err : goal.returns-in-Err
 unfolding by_hints
-returns-in-Refused c =
+returns-in-Err c =
     let words = c.args.hints.now in
-    rw (ne_eqb (length (hints_in words)) 0 (some (goal.at.returns-in-Refused c).Else-count_of-eq0), sym c.goal_contour-contour.ensures ∙ c.in-Refused.is)
+    rw (ne_eqb (length (hints_in words)) 0 (some (goal.at.returns-in-Err c).Else-count_of-eq0), sym c.goal_contour.ensures ∙ c.in-Err.is)
     (put_refused _ c.refuse.ensures)
 
-pub returns-in-Of : goal.returns-in-Of
+pub returns-in-Ok : goal.returns-in-Ok
 unfolding by_hints
-returns-in-Of c =
+returns-in-Ok c =
     let a = c.args in
     let hints = hints_in a.hints.now in
     let os = obstacles_in a.marks.now a.places.now in
     let first = c.first_root-first.result in
     let at_most : length hints ≤ 64 = omega (arith, few a.hints.now, counted a.hints.now) in
-    let links = chain_few a.trip os hints a.budget (first_index first) at_most in
-    let told = chain_told (chain_from a.trip os hints a.budget (first_index first)) c.find_chain-tried.ensures links in
+    let links = chain_few a.trip os hints a.budget first at_most in
+    let told = chain_told (chain_from a.trip os hints a.budget first) c.find_chain-tried.ensures links in
     rw (
-      ne_eqb (length hints) 0 (some (goal.at.returns-in-Of c).Else-count_of-eq0),
-      sym c.goal_contour-contour.ensures ∙ c.in-Of.is,
+      ne_eqb (length hints) 0 (some (goal.at.returns-in-Ok c).Else-count_of-eq0),
+      sym c.goal_contour.ensures ∙ c.in-Ok.is,
       ← c.first_root-first.ensures,
     )
     (rw told at c.take.ensures)

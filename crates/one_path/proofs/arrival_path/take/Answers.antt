@@ -1,23 +1,17 @@
 -- `one_path::arrival_path::take` meets its contract: by the ending of the search.
 -- Assumes nothing.
+use mathlib.Core.Path.{◌≡◌}
+use Rattle.std.specs.Prelude.{Ok, ◌⊎◌}
+use Rattle.std.proofs.Common.{rules, inl, inr}
 use Rattle.path_search.specs.Handed.{chained_of}
+use Rattle.path_search.specs.declared.tried.Ending.TheVariants as E
 use Rattle.one_path.specs.Path.{taken}
-use Rattle.one_path.proofs.Left.{put_missing, put_refused}
+use Rattle.one_path.proofs.Left.{put_missing}
 use Rattle.one_path.proofs.arrival_path.take.Goals as goal
 
-pub returns-in-Found : goal.returns-in-Found
+pub returns-in-Ok-Blocked : goal.returns-in-Ok-Blocked
 unfolding taken chained_of
-returns-in-Found c = rw c.in-Found.is c.along.ensures
-
-pub returns-in-Blocked : goal.returns-in-Blocked
-unfolding taken chained_of
-returns-in-Blocked c = rw c.in-Blocked.is (put_missing _)
-
-pub returns-in-Unreached : goal.returns-in-Unreached
-unfolding taken chained_of
-returns-in-Unreached c = rw c.in-Unreached.is (put_missing _)
-
-pub returns-in-Refused : goal.returns-in-Refused
-unfolding taken chained_of
-returns-in-Refused c =
-    rw c.in-Refused.is (put_refused _ c.refuse.ensures)
+returns-in-Ok-Blocked c =
+    let ending = c.args.tried.ending in
+    let how : (ending ≡ Ok E.Blocked) ⊎ (ending ≡ Ok E.Unreached) = search rules in
+    elim how [ inl e ↦ rw e (put_missing _) | inr e ↦ rw e (put_missing _) ]

@@ -4,7 +4,6 @@
 use mathlib.Core.Path.{◌≡◌, sym, ◌∙◌}
 use mathlib.Core.Bool.{◌&&◌}
 use Rattle.domain.specs.Domain.{is_time}
-use Rattle.domain.specs.declared.limits.Examined.TheVariants.{Fine}
 use Rattle.table.specs.Lent.{Lent, lent_of}
 use Rattle.table.specs.Examined.{agent_examined}
 use Rattle.table_packing.proofs.Packed.{packed_examined, packed_fine}
@@ -14,7 +13,8 @@ use Rattle.domain.proofs.Fine.{numbers_fine}
 use Rattle.one_path_call.specs.Taken.{with_taken}
 use Rattle.one_path_call.proofs.Asked.{taken_fine, asked_fine, asked_refused}
 use Rattle.one_path_call.proofs.calls.arrival_path.Goals as goal
-use Rattle.one_path_call.proofs.calls.arrival_path.Goals.{After-lent_hints-taken, After-with_taken-input, In-Fine}
+use Rattle.one_path_call.proofs.calls.arrival_path.Goals.{After-lent_hints-taken, After-with_taken-input, In-Ok}
+use Rattle.std.specs.Prelude.{Ok}
 
 -- The lists that are lent.
 abbrev lent : (c : After-lent_hints-taken) → Lent
@@ -43,35 +43,35 @@ returns-then-is_brief c =
     let a = c.args in
     rw (
       asked_fine a.p a.agent a.arrival a.budget a.hints.now (lent (goal.at.returns-then-is_brief c).After-lent_hints-taken) c.lent_hints-taken.ensures
-          (input-found (goal.at.returns-then-is_brief c).After-with_taken-input ∙ c.in-Fine.is),
+          (input-found (goal.at.returns-then-is_brief c).After-with_taken-input ∙ c.in-Ok.is),
       sym c.is_brief.ensures ∙ c.if-is_brief.true,
     )
-    c.refuse-then-is_brief.ensures
+    (rw c.from-then-is_brief.ensures at c.refuse-then-is_brief.ensures)
 
-pub returns-in-Refused : goal.returns-in-Refused
+pub returns-in-Err : goal.returns-in-Err
 unfolding path_outcome
-returns-in-Refused c =
+returns-in-Err c =
     let a = c.args in
     rw
-    (asked_refused a.p a.agent a.arrival a.budget a.hints.now (lent (goal.at.returns-in-Refused c).After-lent_hints-taken) c.lent_hints-taken.ensures _
-    (input-found (goal.at.returns-in-Refused c).After-with_taken-input ∙ c.in-Refused.is))
-    c.refuse.ensures
+    (asked_refused a.p a.agent a.arrival a.budget a.hints.now (lent (goal.at.returns-in-Err c).After-lent_hints-taken) c.lent_hints-taken.ensures _
+    (input-found (goal.at.returns-in-Err c).After-with_taken-input ∙ c.in-Err.is))
+    (rw c.from.ensures at c.refuse.ensures)
 
 -- Where nothing is wrong, nothing is wrong with the table.
-table-fine : (c : In-Fine) → c.examine-found.result ≡ Fine
+table-fine : (c : In-Ok) → c.examine-found.result ≡ (Ok tt)
 table-fine c =
     let found = c.examine-found.result in
     let numbers = sym c.with_numbers.ensures in
-    let all = sym c.with_taken-input.ensures ∙ c.in-Fine.is in
+    let all = sym c.with_taken-input.ensures ∙ c.in-Ok.is in
     numbers_fine _ found (numbers ∙ taken_fine c.lent_hints-taken.result _ all)
 
 pub returns-else-is_brief : goal.returns-else-is_brief
 returns-else-is_brief c =
     let a = c.args in
-    let examined = sym c.examine-found.ensures ∙ table-fine (goal.at.returns-else-is_brief c).In-Fine in
+    let examined = sym c.examine-found.ensures ∙ table-fine (goal.at.returns-else-is_brief c).In-Ok in
     rw (
       asked_fine a.p a.agent a.arrival a.budget a.hints.now (lent (goal.at.returns-else-is_brief c).After-lent_hints-taken) c.lent_hints-taken.ensures
-          (input-found (goal.at.returns-else-is_brief c).After-with_taken-input ∙ c.in-Fine.is),
+          (input-found (goal.at.returns-else-is_brief c).After-with_taken-input ∙ c.in-Ok.is),
       sym c.is_brief.ensures ∙ c.if-is_brief.false,
       ← packed_fine (lent (goal.at.returns-else-is_brief c).After-lent_hints-taken) _ _ _ _ _ c.pack-packed.ensures examined,
     )

@@ -1,7 +1,7 @@
 -- `one_path_call::calls::give_path` meets its contract: a row for the path or for none, those of its actions, or the refusal.
 -- Assumes nothing.
 use Prim.Native.Nat.{ℕ, ◌≤◌}
-use mathlib.Core.Path.{◌≡◌, sym, ap, ◌∙◌}
+use mathlib.Core.Path.{◌≡◌, sym, ◌∙◌}
 use mathlib.Core.List.{List}
 use native.Mathlib.Omega.{arith}
 use lib.ListN.{length}
@@ -19,10 +19,12 @@ use Rattle.one_path.proofs.Short.{path_short}
 use Rattle.one_path_call.proofs.Given.{given_refused, given_missing, given_path}
 use Rattle.one_path_call.proofs.calls.give_path.Goals as goal
 use Rattle.one_path_call.proofs.calls.give_path.Goals.{After-compute_safe_arrival_path-found}
+use Rattle.std.specs.Prelude.{Ok}
+use Rattle.std.proofs.Common.{rules}
 
 -- A path has few actions.
 few-actions : (c : After-compute_safe_arrival_path-found) (many pops : ℕ) (hold : Duration) →
-    c.compute_safe_arrival_path-found.result ≡ F.Path many pops hold → many ≤ 129
+    c.compute_safe_arrival_path-found.result ≡ Ok (F.Path many pops hold) → many ≤ 129
 few-actions c many pops hold e =
     let a = c.args in
     let os = obstacles_in a.marks.now a.places.now in
@@ -39,19 +41,22 @@ few-actions c many pops hold e =
 
 pub overflow_add-many : goal.overflow_add-many
 overflow_add-many c =
-    omega (arith, few-actions (goal.at.overflow_add-many c).After-compute_safe_arrival_path-found _ _ _ c.in-Path.is)
+    let found : c.compute_safe_arrival_path-found.result ≡ Ok (F.Path c.in-Ok-Path.many c.in-Ok-Path.pops c.in-Ok-Path.hold) = search rules in
+    omega (arith, few-actions (goal.at.overflow_add-many c).After-compute_safe_arrival_path-found _ _ _ found)
 
-pub returns-in-Refused : goal.returns-in-Refused
-returns-in-Refused c =
-    given_refused c.compute_safe_arrival_path-found.ensures _ c.in-Refused.is
+pub returns-in-Err : goal.returns-in-Err
+returns-in-Err c =
+    rw c.from.ensures (given_refused c.compute_safe_arrival_path-found.ensures _ c.in-Err.is)
 
-pub returns-in-Missing : goal.returns-in-Missing
-returns-in-Missing c =
-    given_missing c.compute_safe_arrival_path-found.ensures _ c.in-Missing.is
+pub returns-in-Ok-Missing : goal.returns-in-Ok-Missing
+returns-in-Ok-Missing c =
+    let found : c.compute_safe_arrival_path-found.result ≡ Ok (F.Missing c.in-Ok-Missing.pops) = search rules in
+    given_missing c.compute_safe_arrival_path-found.ensures _ found
     c.put_row.ensures c.settle.ensures
 
-pub returns-in-Path : goal.returns-in-Path
-returns-in-Path c =
-    let hold = read_back c.in-Path.hold.0 (record { sfits = c.struct_told-1.given.0.1 }) in
-    given_path c.compute_safe_arrival_path-found.ensures _ _ c.in-Path.hold c.in-Path.is
-    (c.put_row-in-Path.ensures ∙ rw (c.of_signed-held.ensures ∙ ap word_of hold)) c.settle-in-Path.ensures
+pub returns-in-Ok-Path : goal.returns-in-Ok-Path
+returns-in-Ok-Path c =
+    let path = c.in-Ok-Path in
+    let found : c.compute_safe_arrival_path-found.result ≡ Ok (F.Path path.many path.pops path.hold) = search rules in
+    let held : c.of_signed-held.result ≡ word_of path.hold.0 = search (rules, read_back) in
+    given_path c.compute_safe_arrival_path-found.ensures _ _ path.hold found (c.put_row-in-Ok-Path.ensures ∙ rw held) c.settle-in-Ok-Path.ensures

@@ -2,7 +2,7 @@
 -- child k, 3i for the children of i. The children from the one that the loop is at come to what all come to, and the chain is as it
 -- was lent.
 -- Assumes nothing.
-use Prim.Native.Nat.{◌+◌, ◌*◌, ◌≤◌}
+use Prim.Native.Nat.{◌+◌, ◌*◌}
 use mathlib.Core.Path.{◌≡◌}
 use Rattle.table.specs.Table.{obstacles_in}
 use Rattle.hint_list.specs.Words.{hints_in}
@@ -22,8 +22,5 @@ abbrev pub invariant-try_children-loop-k : goal.invariant-try_children-loop-k
 invariant-try_children-loop-k l =
     let os = obstacles_in l.marks l.places in
     let hs = hints_in l.hints in
-    (l.k ≤ l.i) × (l.chain ≡ l.initial.chain) ×
+    (l.chain ≡ l.initial.chain) ×
     (children_tried l.trip os hs l.budget l.i l.k l.made ≡ children_tried l.trip os hs l.budget l.i l.i l.initial.made)
-
-abbrev pub decreases-try_children-loop-k : goal.decreases-try_children-loop-k
-decreases-try_children-loop-k l = l.k

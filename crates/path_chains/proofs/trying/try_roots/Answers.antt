@@ -1,15 +1,17 @@
 -- `path_chains::trying::try_roots` meets its contract: the search from the root that the loop is at is the search from the first.
 -- Assumes nothing.
-use borrow.Enum.Refused.{opened}
+use Rattle.std.specs.Prelude.{Ok}
+use Rattle.std.proofs.Common.{rules}
+use mathlib.Core.Bool.{false}
+use Rattle.path_search.specs.declared.tried.Ending.TheVariants.{Blocked}
 use Prim.Native.Nat.{◌<◌, ◌≤◌}
-use mathlib.Core.Path.{◌≡◌, refl, sym, ◌∙◌}
+use mathlib.Core.Path.{◌≡◌, sym, ◌∙◌}
 use native.Mathlib.Omega.{arith}
 use lib.ListN.{length}
 use Rattle.table.specs.Table.{obstacles_in}
 use Rattle.hint_list.specs.Words.{hints_in}
 use Rattle.hint_list.proofs.Reading.{counted}
-use Rattle.path_search.proofs.Steps.{roots_end, root_answers, root_next}
-use Rattle.path_search.proofs.Else.{not_blocked}
+use Rattle.path_search.proofs.Steps.{is_blocked, roots_end, root_answers, root_next}
 use Rattle.path_chains.specs.Trying.{to_parent, starts_at, reaches}
 use Rattle.path_chains.proofs.trying.try_roots.Goals as goal
 use Rattle.path_chains.proofs.trying.try_roots.Goals.{After-count_of-count}
@@ -19,25 +21,17 @@ bound : (c : After-count_of-count) →
     length (hints_in c.args.hints.now) ≡ c.count_of-count.result
 bound c = counted c.args.hints.now ∙ sym c.count_of-count.ensures
 
-pub loop-root-init : goal.loop-root-init
-loop-root-init c = (refl, refl)
-
-pub returns-in_default : goal.returns-in_default
-returns-in_default c =
+pub returns-then-ne : goal.returns-then-ne
+returns-then-ne c =
     let h = c.try_hint-tried in
     let l = c.loop-root in
     let a = c.args in
     let hints = hints_in a.hints.now in
-    let there : l.root < length hints = omega (arith, bound (goal.at.returns-in_default c).After-count_of-count) in
+    let there : l.root < length hints = omega (arith, bound (goal.at.returns-then-ne c).After-count_of-count) in
+    let other : is_blocked h.result.ending ≡ false = search rules in
     rw (sym l.invariant.1, sym l.invariant.0)
     (root_answers (to_parent a.trip (obstacles_in a.marks.now a.places.now) hints) (starts_at a.trip (obstacles_in a.marks.now a.places.now) hints) (reaches hints) a.budget
-    (length hints) l.root l.made there h.ensures (not_blocked h.result.ending (opened c.in_default.in_default-own.keys2)))
-
-pub overflow_add-root : goal.overflow_add-root
-overflow_add-root c = omega arith
-
-pub loop-root-smaller : goal.loop-root-smaller
-loop-root-smaller c = omega arith
+    (length hints) l.root l.made there h.ensures other)
 
 pub loop-root-preserved : goal.loop-root-preserved
 loop-root-preserved c =
@@ -46,9 +40,10 @@ loop-root-preserved c =
     let a = c.args in
     let hints = hints_in a.hints.now in
     let there : l.root < length hints = omega (arith, bound (goal.at.loop-root-preserved c).After-count_of-count, c.loop-root-test.true) in
+    let blocked : h.result.ending ≡ Ok Blocked = search rules in
     let up =
     root_next (to_parent a.trip (obstacles_in a.marks.now a.places.now) hints) (starts_at a.trip (obstacles_in a.marks.now a.places.now) hints) (reaches hints) a.budget
-    (length hints) l.root l.made there h.ensures c.in-Blocked.is in
+    (length hints) l.root l.made there h.ensures blocked in
     (up.1 ∙ l.invariant.0, sym up.0 ∙ l.invariant.1)
 
 pub returns : goal.returns

@@ -21,6 +21,3 @@ abbrev pub invariant-loop-root : goal.invariant-loop-root
 invariant-loop-root l =
     let os = obstacles_in l.marks l.places in
     (l.chain ≡ l.initial.chain) × (rootsFrom l.trip os (hints_in l.hints) l.budget l.root l.made ≡ rootsFrom l.trip os (hints_in l.hints) l.budget l.from 0)
-
-abbrev pub decreases-loop-root : goal.decreases-loop-root
-decreases-loop-root l = l.count - l.root

@@ -1,55 +1,28 @@
--- `path_roots::roots::count_level` meets its contract: those passed and those level among the others make the count.
+-- `path_roots::roots::count_level` meets its contract: the places that pass its test are those of the hints that are not above.
 -- Assumes nothing.
-use Prim.Native.Nat.{◌+◌}
-use mathlib.Core.Path.{◌≡◌, sym, ◌∙◌}
-use mathlib.Core.List.{◌∷◌}
+use Prim.Native.Nat.{ℕ, ◌-◌}
+use mathlib.Core.Path.{refl, sym, ◌∙◌}
+use mathlib.Core.Bool.{Bool}
 use native.Mathlib.Omega.{arith}
-use lib.ListN.{drop}
-use Rattle.hint_list.specs.Words.{hints_in}
+use lib.ListN.{get_or}
+use Rattle.std.proofs.Common.{rules, tests}
+use Rattle.std.specs.List.{range_with_len}
+use Rattle.std.proofs.lemmas.Iterator.{YieldsList-from_range}
+use Rattle.std.proofs.lemmas.Iterator.Consumers.{count_from_yields_List}
+use Rattle.std.proofs.lemmas.Iterator.Search.{YieldsList-from_take_while}
+use Rattle.std.proofs.lemmas.List.Folds.{length-prefix_len}
+use Rattle.hint_list.specs.Words.{hints_in, blank_ranked}
 use Rattle.hint_list.proofs.Reading.{counted}
-use Rattle.path_roots.proofs.Counts.{from_here, level_here, level_next, level_end}
+use Rattle.path_roots.proofs.Counts.{not_above, level_front, passed_from}
 use Rattle.path_roots.proofs.roots.count_level.Goals as goal
-use Rattle.path_roots.proofs.roots.count_level.Goals.{After-hint_at-h}
-
--- The hint that the loop is at, and those behind it.
-here : (c : After-hint_at-h) →
-    let l = hints_in c.args.hints.now in
-    let i = c.loop-i.i in
-    drop i l ≡ c.hint_at-h.result ∷ drop (i + 1) l
-here c =
-    let words = c.args.hints.now in
-    rw c.hint_at-h.ensures (from_here (hints_in words) c.loop-i.i (omega (arith, counted words)))
-
-pub loop-i-init : goal.loop-i-init
-loop-i-init c = (omega arith, omega (arith, counted c.args.hints.now), omega arith)
-
-pub overflow_sub-result : goal.overflow_sub-result
-overflow_sub-result c = omega arith
-
-pub returns-then-is_below : goal.returns-then-is_below
-returns-then-is_below c =
-    let a = c.args in
-    let stops = sym c.is_below.ensures ∙ c.if-is_below.true in
-    omega (arith, level_here a.contour (hints_in a.hints.now) c.loop-i.i _ (here (goal.at.returns-then-is_below c).After-hint_at-h) stops)
-
-pub overflow_add-i : goal.overflow_add-i
-overflow_add-i c = omega arith
-
-pub loop-i-smaller : goal.loop-i-smaller
-loop-i-smaller c = omega arith
-
-pub loop-i-preserved : goal.loop-i-preserved
-loop-i-preserved c =
-    let a = c.args in
-    let counts = sym c.is_below.ensures ∙ c.if-is_below.false in
-    let next = level_next a.contour (hints_in a.hints.now) c.loop-i.i _ (here (goal.at.loop-i-preserved c).After-hint_at-h) counts in
-    (omega arith, omega arith, omega arith)
-
-pub overflow_sub-result-2 : goal.overflow_sub-result-2
-overflow_sub-result-2 c = omega arith
 
 pub returns : goal.returns
 returns c =
     let a = c.args in
-    let words = a.hints.now in
-    omega (arith, level_end a.contour (hints_in words) c.loop-i.i (omega (arith, counted words)))
+    let l = hints_in a.hints.now in
+    let test : ℕ → Bool = λ k. not_above a.contour (get_or l k blank_ranked) in
+    let left : ℕ = c.count_of.result - a.from in
+    count_from_yields_List c.take_while.result _ c.count.ensures.ran
+    (YieldsList-from_take_while _ test (YieldsList-from_range a.from c.count_of.result left c.take_while.ensures.source refl) c.take_while.ensures.closure c.take_while.ensures.done
+    (λ x b q k. search (rules, tests))) ∙ length-prefix_len test (range_with_len a.from left) ∙
+    passed_from (not_above a.contour) l left a.from (omega (arith, counted a.hints.now)) ∙ sym (level_front a.contour _)

@@ -1,7 +1,6 @@
 -- `plan_exports::arrival_words::give_listed` meets its contract: the counts, the words of the times and zero after them, or 12.
 -- Assumes nothing.
-use mathlib.Core.Path.{◌≡◌, ◌∙◌}
-use native.Mathlib.Omega.{arith}
+use mathlib.Core.Path.{◌≡◌}
 use lib.ListN.{length, length-set}
 use Rattle.plan_exports.proofs.ArrivalWords.{listed_short, listed_fits}
 use Rattle.plan_exports.proofs.arrival_words.give_listed.Goals as goal
@@ -11,25 +10,16 @@ pub returns-then-out-n : goal.returns-then-out-n
 returns-then-out-n c =
     let a = c.args in
     let short = c.if-out-n.true in
-    listed_short a.count a.sweeps a.list.now c.held-n.ensures short c.refuse.ensures
-
-pub bounds-out-1 : goal.bounds-out-1
-bounds-out-1 c = simp length-set (omega arith)
-
-pub put_times-requires : goal.put_times-requires
-put_times-requires c = (simp length-set (omega arith), omega (arith, c.held-n.ensures))
+    listed_short a.found a.list.now c.held-n.ensures short (rw c.from.ensures at c.refuse.ensures)
 
 -- The room keeps its length.
 kept : (c : After-put_times) →
     length c.put_times.new.room ≡ length c.args.out.now
 kept c = simp length-set at c.put_times.auto.room
 
-pub shape_of-out : goal.shape_of-out
-shape_of-out c = c.wipe_from.auto.out ∙ kept (goal.at.shape_of-out c).After-put_times
-
 pub returns : goal.returns
 returns c =
     let fits = c.if-out-n.false in
     let a = c.args in
-    listed_fits a.count a.sweeps a.list.now c.held-n.ensures c.put_times.new.room fits (kept (goal.at.returns c).After-put_times)
+    listed_fits a.found a.list.now c.held-n.ensures c.put_times.new.room fits (kept (goal.at.returns c).After-put_times)
     c.put_times.ensures c.wipe_from.ensures

@@ -2,48 +2,50 @@
 -- its obstacles.
 -- Assumes nothing.
 use mathlib.Core.Path.{◌≡◌, sym, ◌∙◌}
-use Rattle.domain.specs.declared.limits.Examined.TheVariants.{Fine}
 use Rattle.table.specs.Examined.{table_examined}
 use Rattle.table.specs.Table.{obstacles_in}
 use Rattle.domain.specs.Beside.{is_budget, with_numbers}
 use Rattle.plan_model.specs.Plan.{plan_of}
 use Rattle.plan_model.specs.Asked.{table_plan}
+use Rattle.plan_model.proofs.Handing.{refused_both}
 use Rattle.plan_making.proofs.Few.{fine_few}
 use Rattle.plan_making.proofs.calls.plan_table.Goals as goal
-use Rattle.plan_making.proofs.calls.plan_table.Goals.{In-Fine}
+use Rattle.plan_making.proofs.calls.plan_table.Goals.{In-Ok}
+use Rattle.std.specs.Prelude.{Result, Ok, Err}
+use Rattle.refusals.specs.declared.Refusal.{Refusal}
 
-asked : (c : In-Fine) →
+asked : (c : In-Ok) →
     let a = c.args in
     let os = obstacles_in a.marks.now a.places.now in
-    with_numbers (is_budget a.budget) (table_examined a.packed a.p a.agent os) ≡ Fine
+    with_numbers (is_budget a.budget) (table_examined a.packed a.p a.agent os) ≡ Ok tt
 asked c =
     rw (c.is_budget.ensures, c.examine-found.ensures)
-    at (sym c.with_numbers-input.ensures ∙ c.in-Fine.is)
+    at (sym c.with_numbers-input.ensures ∙ c.in-Ok.is)
 
 pub returns-then-is_brief : goal.returns-then-is_brief
 unfolding table_plan plan_of
 returns-then-is_brief c =
-    rw (asked (goal.at.returns-then-is_brief c).In-Fine, sym c.is_brief.ensures ∙ c.if-is_brief.true)
+    rw (asked (goal.at.returns-then-is_brief c).In-Ok, sym c.is_brief.ensures ∙ c.if-is_brief.true)
     c.move_at_once.ensures
 
 pub plan_among-requires : goal.plan_among-requires
 plan_among-requires c =
     let a = c.args in
     let os = obstacles_in a.marks.now a.places.now in
-    fine_few (is_budget a.budget) a.packed a.p a.agent os (asked (goal.at.plan_among-requires c).In-Fine)
+    fine_few (is_budget a.budget) a.packed a.p a.agent os (asked (goal.at.plan_among-requires c).In-Ok)
 
-pub returns-in-Refused : goal.returns-in-Refused
+pub returns-in-Err : goal.returns-in-Err
 unfolding table_plan
-returns-in-Refused c =
+returns-in-Err c =
     rw (
       ← c.is_budget.ensures,
       ← c.examine-found.ensures,
-      sym c.with_numbers-input.ensures ∙ c.in-Refused.is,
+      sym c.with_numbers-input.ensures ∙ c.in-Err.is,
     )
-    c.refuse.ensures
+    (refused_both c.in-Err.why c.from.ensures c.refuse.ensures)
 
 pub returns-else-is_brief : goal.returns-else-is_brief
 unfolding table_plan plan_of
 returns-else-is_brief c =
-    rw (asked (goal.at.returns-else-is_brief c).In-Fine, sym c.is_brief.ensures ∙ c.if-is_brief.false)
+    rw (asked (goal.at.returns-else-is_brief c).In-Ok, sym c.is_brief.ensures ∙ c.if-is_brief.false)
     c.plan_among.ensures

@@ -13,9 +13,9 @@ returns-then-not-has_room c =
     let short = sym c.has_room.ensures ∙ c.if-not-has_room.true in
     let refused = c.refuse.ensures in
     record {
-      number = rw short refused.number;
+      number = rw short (refused.number_law ∙ c.from.ensures);
       room = rw short refused.room;
-      action_room = rw short refused.actions;
+      action_room = rw short refused.action_room;
     }
 
 pub returns-then-not-has_room-2 : goal.returns-then-not-has_room-2
@@ -25,9 +25,9 @@ returns-then-not-has_room-2 c =
     let fits = sym c.has_room.ensures ∙ c.if-not-has_room.false in
     let refused = c.refuse-then-not-has_room-2.ensures in
     record {
-      number = rw (fits, short) refused.number;
+      number = rw (fits, short) (refused.number_law ∙ c.from-then-not-has_room-2.ensures);
       room = rw (fits, short) refused.room;
-      action_room = rw (fits, short) refused.actions;
+      action_room = rw (fits, short) refused.action_room;
     }
 
 pub overflow_mul-heads : goal.overflow_mul-heads

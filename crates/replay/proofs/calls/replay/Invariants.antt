@@ -1,14 +1,17 @@
--- `replay::calls::replay` meets its contract: at each turn, the verdict from this line on is that of the whole list.
+-- At each turn, the verdict from this line on is that of the whole list, and the chunks left are those behind the lines so far.
 -- Assumes nothing.
-use mathlib.Core.Path.{◌≡◌}
-use Prim.Native.Nat.{◌-◌, ◌*◌, ◌≤◌}
-use lib.ListN.{length}
+use Rattle.std.proofs.Common.{◌≡◌, ◌+◌, ◌*◌, ◌≤◌, length, drop}
+use Rattle.std.specs.Slice.Iter.{chunks_rest, chunks_size}
 use Rattle.replay.specs.Listed.{verdict_of}
 use Rattle.replay.proofs.Lines.{from}
 use Rattle.replay.proofs.calls.replay.Given as goal
 
-abbrev pub invariant-loop-at : goal.invariant-loop-at
-invariant-loop-at l = (l.at ≡ l.lines * 85) × ((l.at ≤ length l.s) × (from l.s l.lines ≡ verdict_of l.s))
-
-abbrev pub decreases-loop-at : goal.decreases-loop-at
-decreases-loop-at l = length l.s - l.at
+abbrev pub invariant-loop-line : goal.invariant-loop-line
+invariant-loop-line l = record {
+  next : (goal.iterator-loop-line).can_next l.line-iterator;
+  finite : (goal.iterator-loop-line).is_finite l.line-iterator;
+  size : chunks_size l.line-iterator ≡ 85;
+  rest : chunks_rest l.line-iterator ≡ drop (l.lines * 85) l.s;
+  few : l.lines * 85 ≤ length l.s + 84;
+  same : from l.s l.lines ≡ verdict_of l.s;
+}

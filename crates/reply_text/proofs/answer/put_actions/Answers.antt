@@ -13,15 +13,6 @@ loop-i-init c =
     let a = c.args in
     (goes_all (action_lines (listed_to (row_at a.actions.now) a.to a.from)) a.out.now a.at, omega arith)
 
-pub put_action-next-requires : goal.put_action-next-requires
-put_action-next-requires c = omega arith
-
-pub overflow_add-i : goal.overflow_add-i
-overflow_add-i c = omega arith
-
-pub loop-i-smaller : goal.loop-i-smaller
-loop-i-smaller c = omega arith
-
 pub loop-i-preserved : goal.loop-i-preserved
 unfolding action_lines
 loop-i-preserved c =
@@ -30,9 +21,6 @@ loop-i-preserved c =
     let row : ℕ → Row = row_at a.actions.now in
     let put = c.put_action-next.ensures in
     (goes_on (rw (listed_next row a.to l.i (omega arith)) at l.invariant.0) put, put_within put)
-
-pub shape_of-out : goal.shape_of-out
-shape_of-out c = c.loop-i.invariant.0.kept
 
 pub returns : goal.returns
 unfolding action_lines

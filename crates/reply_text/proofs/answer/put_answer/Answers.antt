@@ -1,14 +1,7 @@
 -- `reply_text::answer::put_answer` meets its contract: the lines of the plan are put and then handed over.
 -- Assumes nothing.
 use Rattle.texts.proofs.Telling.{telling}
-use Rattle.reply_text.proofs.Sizes.{plan_short}
 use Rattle.reply_text.proofs.answer.put_answer.Goals as goal
 
 pub returns-clause-tells : goal.returns-clause-tells
 returns-clause-tells c = telling c.put_plan-end.ensures c.settle.ensures
-
-pub returns-clause-actions_len_bound : goal.returns-clause-actions_len_bound
-returns-clause-actions_len_bound c =
-    plan_short c.args.paths.now c.args.actions.now
-    (λ i. (c.type_inv.paths i).fits)
-    (λ i. (c.type_inv.actions i).fits)

@@ -23,67 +23,6 @@ loop-i-init c =
       omega arith,
     )
 
-pub overflow_mul-i : goal.overflow_mul-i
-overflow_mul-i c = omega arith
-
-pub offset_bounds-paths-i : goal.offset_bounds-paths-i
-offset_bounds-paths-i c = omega arith
-
-pub bounds-paths-i : goal.bounds-paths-i
-bounds-paths-i c = omega arith
-
-pub overflow_mul-i-in-loop-i : goal.overflow_mul-i-in-loop-i
-overflow_mul-i-in-loop-i c = omega arith
-
-pub overflow_add-i : goal.overflow_add-i
-overflow_add-i c = omega arith
-
-pub offset_bounds-paths-i-in-loop-i : goal.offset_bounds-paths-i-in-loop-i
-offset_bounds-paths-i-in-loop-i c = omega arith
-
-pub bounds-paths-i-in-loop-i : goal.bounds-paths-i-in-loop-i
-bounds-paths-i-in-loop-i c = omega arith
-
-pub overflow_mul-i-in-loop-i-2 : goal.overflow_mul-i-in-loop-i-2
-overflow_mul-i-in-loop-i-2 c = omega arith
-
-pub overflow_add-i-in-loop-i : goal.overflow_add-i-in-loop-i
-overflow_add-i-in-loop-i c = omega arith
-
-pub offset_bounds-paths-i-in-loop-i-2 : goal.offset_bounds-paths-i-in-loop-i-2
-offset_bounds-paths-i-in-loop-i-2 c = omega arith
-
-pub bounds-paths-i-in-loop-i-2 : goal.bounds-paths-i-in-loop-i-2
-bounds-paths-i-in-loop-i-2 c = omega arith
-
-pub put_path-next-requires : goal.put_path-next-requires
-put_path-next-requires c = tt
-
-pub overflow_mul-i-in-loop-i-3 : goal.overflow_mul-i-in-loop-i-3
-overflow_mul-i-in-loop-i-3 c = omega arith
-
-pub overflow_add-i-in-loop-i-2 : goal.overflow_add-i-in-loop-i-2
-overflow_add-i-in-loop-i-2 c = omega arith
-
-pub offset_bounds-paths-i-in-loop-i-3 : goal.offset_bounds-paths-i-in-loop-i-3
-offset_bounds-paths-i-in-loop-i-3 c = omega arith
-
-pub bounds-paths-i-in-loop-i-3 : goal.bounds-paths-i-in-loop-i-3
-bounds-paths-i-in-loop-i-3 c = omega arith
-
-pub rows_end-to-requires : goal.rows_end-to-requires
-rows_end-to-requires c = tt
-
-pub put_actions-next-requires : goal.put_actions-next-requires
-put_actions-next-requires c =
-    (omega (arith, c.rows_end-to.ensures), put_within c.put_path-next.ensures)
-
-pub overflow_add-i-in-loop-i-3 : goal.overflow_add-i-in-loop-i-3
-overflow_add-i-in-loop-i-3 c = omega arith
-
-pub loop-i-smaller : goal.loop-i-smaller
-loop-i-smaller c = omega arith
-
 pub loop-i-preserved : goal.loop-i-preserved
 unfolding row_at
 loop-i-preserved c =
@@ -98,9 +37,6 @@ loop-i-preserved c =
       goes_on (goes_on (rw next at l.invariant.0) c.put_path-next.ensures) acted.ensures,
       put_within acted.ensures,
     )
-
-pub shape_of-out : goal.shape_of-out
-shape_of-out c = c.loop-i.invariant.0.kept
 
 pub returns : goal.returns
 unfolding path_lines

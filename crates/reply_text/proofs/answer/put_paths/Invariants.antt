@@ -1,7 +1,7 @@
 -- `reply_text::answer::put_paths` meets its contract: at each turn, the lines of the paths from i on with those of the actions from
 -- `from` on, put from here, are all.
 -- Assumes nothing.
-use Prim.Native.Nat.{◌+◌, ◌-◌, ◌/◌, ◌≤◌}
+use Prim.Native.Nat.{◌+◌, ◌/◌, ◌≤◌}
 use lib.ListN.{length}
 use Rattle.lent.specs.Listed.{listed_to}
 use Rattle.reply_text.specs.Answer.{row_at, rows_of, path_lines}
@@ -18,6 +18,3 @@ invariant-loop-i l =
     l.initial.out
     l.at
     × (l.next ≤ length l.out + 1)
-
-abbrev pub decreases-loop-i : goal.decreases-loop-i
-decreases-loop-i l = l.end - l.i

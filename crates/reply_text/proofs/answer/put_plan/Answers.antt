@@ -1,13 +1,8 @@
 -- `reply_text::answer::put_plan` meets its contract: the counts are the words of the first row, and the paths end where it says.
 -- Assumes nothing.
-use native.Mathlib.Omega.{arith}
-use Rattle.texts.proofs.Putting.{put_both, put_within}
+use Rattle.texts.proofs.Putting.{put_both}
 use Rattle.reply_text.proofs.Rows.{plan_known}
 use Rattle.reply_text.proofs.answer.put_plan.Goals as goal
-
-pub put_paths-requires : goal.put_paths-requires
-put_paths-requires c =
-    (omega (arith, c.rows_end-end.ensures), put_within c.put_ok-next.ensures)
 
 pub returns : goal.returns
 returns c =

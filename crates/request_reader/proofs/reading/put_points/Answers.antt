@@ -17,25 +17,7 @@ loop-i-init c =
     let none : a.from + 0 ≡ a.from = omega arith in
     let first : a.at + 178 * 0 ≡ a.at = omega arith in
     let all : a.n - 0 ≡ a.n = omega arith in
-    (omega arith, rw (none, first, all), rw (none, first, all))
-
-pub overflow_mul-i : goal.overflow_mul-i
-overflow_mul-i c = omega arith
-
-pub overflow_add-at : goal.overflow_add-at
-overflow_add-at c = omega arith
-
-pub waypoint_at-w-requires : goal.waypoint_at-w-requires
-waypoint_at-w-requires c = omega arith
-
-pub overflow_add-from : goal.overflow_add-from
-overflow_add-from c = omega arith
-
-pub overflow_add-i : goal.overflow_add-i
-overflow_add-i c = omega arith
-
-pub loop-i-smaller : goal.loop-i-smaller
-loop-i-smaller c = omega arith
+    (rw (none, first, all), rw (none, first, all))
 
 pub loop-i-preserved : goal.loop-i-preserved
 unfolding point_times point_places
@@ -48,7 +30,7 @@ loop-i-preserved c =
     let put : PutsWaypoint (a.from + l.i) (request_waypoint (point_at s (a.at + 178 * l.i))) l.marks c.put_waypoint.new.marks
     l.places c.put_waypoint.new.places =
     rw c.waypoint_at-w.ensures at c.put_waypoint.ensures in
-    (omega arith, rw (one, put.marked) (rw next at l.invariant.1), rw (one, put.placed) (rw next at l.invariant.2))
+    (rw (one, put.marked) (rw next at l.invariant.0), rw (one, put.placed) (rw next at l.invariant.1))
 
 pub returns : goal.returns
 unfolding point_times point_places
@@ -56,4 +38,4 @@ returns c =
     let l = c.loop-i in
     let a = c.args in
     let none = points_done a.s.now (a.at + 178 * l.i) a.n l.i c.loop-i-test.false in
-    record { marked = rw none at l.invariant.1; placed = rw none at l.invariant.2 }
+    record { marked = rw none at l.invariant.0; placed = rw none at l.invariant.1 }

@@ -2,7 +2,7 @@
 -- all.
 -- Assumes nothing.
 use mathlib.Core.Path.{◌≡◌}
-use Prim.Native.Nat.{◌+◌, ◌-◌, ◌*◌, ◌≤◌}
+use Prim.Native.Nat.{◌+◌, ◌-◌, ◌*◌}
 use Rattle.request_format.specs.Format.{points_at}
 use Rattle.request_reader.specs.Laid.{point_times, point_places}
 use Rattle.request_reader.proofs.reading.put_points.Given as goal
@@ -10,9 +10,5 @@ use Rattle.request_reader.proofs.reading.put_points.Given as goal
 abbrev pub invariant-loop-i : goal.invariant-loop-i
 invariant-loop-i l =
     let rest = points_at l.s (l.at + 178 * l.i) (l.n - l.i) in
-    (l.i ≤ l.n) ×
     (point_times rest (l.from + l.i) l.marks ≡ point_times (points_at l.s l.at l.n) l.from l.initial.marks) ×
     (point_places rest (l.from + l.i) l.places ≡ point_places (points_at l.s l.at l.n) l.from l.initial.places)
-
-abbrev pub decreases-loop-i : goal.decreases-loop-i
-decreases-loop-i l = l.n - l.i

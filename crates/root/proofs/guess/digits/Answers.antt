@@ -8,7 +8,6 @@ use lib.Dec.{T}
 use lib.Ieee.{binary64, nan_bits}
 use lib.Ieee.Bits.{nan_bits_above}
 use Rattle.floats.proofs.NotANumber.{self_known}
-use borrow.Author.Rules.{rules}
 use Rattle.root.proofs.guess.digits.Goals as goal
 
 no_nan : (b : ℕ) → b ≤ 0x7ff0_0000_0000_0000 → T (not (nan_bits binary64 b))
@@ -22,6 +21,3 @@ float_from_bits-y c = no_nan (0x5fe6_eb50_c7b5_37a9 - c.args.p / 2) (omega arith
 
 pub float_to_bits-b : goal.float_to_bits-b
 float_to_bits-b c = self_known _ c.if-r.false
-
-pub returns : goal.returns
-returns c = search rules

@@ -3,16 +3,11 @@
 use mathlib.Core.Path.{◌≡◌}
 use Prim.Native.Nat.{◌*◌, ◌^◌}
 use native.Mathlib.Omega.{arith}
-use Rattle.root.proofs.WholeRoot.{whole_small}
 use Rattle.root.proofs.NearestWhole.{nearest_whole}
 use Rattle.root.proofs.nearest.root_digits.Goals as goal
 
-pub overflow_add-result : goal.overflow_add-result
-overflow_add-result c = omega (arith, whole_small 54 (c.args.a * 2 ^ 54), c.whole_root.ensures)
-
-pub returns : goal.returns
-returns c =
+pub returns-in-Some : goal.returns-in-Some
+returns-in-Some c =
     let a = c.args.a in
-    let t = c.nearest_to-t in
     let four : 4 * (a * 2 ^ 52) ≡ a * 2 ^ 54 = omega arith in
-    rw four at (nearest_whole (a * 2 ^ 52) t.result (omega arith) (t.ensures.right (omega arith)))
+    rw four at (nearest_whole (a * 2 ^ 52) c.in-Some.t (omega arith) c.in-Some.ensures.right)

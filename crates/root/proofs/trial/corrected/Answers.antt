@@ -15,10 +15,6 @@ one_less n (suc u) over under e p l h =
     let less : suc u - 1 ≡ u = omega arith in
     rw less (record { under = omega arith; over = omega arith })
 
-pub returns-then-under-over : goal.returns-then-under-over
-returns-then-under-over c n e =
-    tried n c.args.g c.args.g (record { under = omega arith; over = omega arith })
-
 pub returns-then-under-over-2 : goal.returns-then-under-over-2
 returns-then-under-over-2 c n e =
     let g = c.args.g in
@@ -26,11 +22,6 @@ returns-then-under-over-2 c n e =
 
 pub returns-then-over-under : goal.returns-then-over-under
 returns-then-over-under c n e = none_below n c.args.g (omega arith) (omega arith)
-
-pub returns-then-over-under-2 : goal.returns-then-over-under-2
-returns-then-over-under-2 c n e =
-    let g = c.args.g in
-    tried n g (g + 1) (record { under = omega arith; over = omega arith })
 
 pub returns : goal.returns
 returns c n e = none_above n c.args.g (omega arith)

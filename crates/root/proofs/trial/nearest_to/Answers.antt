@@ -11,21 +11,6 @@ use Rattle.root.proofs.trial.nearest_to.Goals.{Start}
 cut : (c : Start) → Parts (c.args.g / 2 ^ 26) (c.args.g % 2 ^ 26)
 cut c = parts c.args.g c.requires.1
 
-pub overflow_mul-p-2 : goal.overflow_mul-p-2
-overflow_mul-p-2 c = omega (arith, (cut (goal.at.overflow_mul-p-2 c).Start).crossed)
-
-pub overflow_mul-upper : goal.overflow_mul-upper
-overflow_mul-upper c = omega (arith, (cut (goal.at.overflow_mul-upper c).Start).upper)
-
-pub overflow_add-upper : goal.overflow_add-upper
-overflow_add-upper c = omega (arith, (cut (goal.at.overflow_add-upper c).Start).upper, (cut (goal.at.overflow_add-upper c).Start).crossed)
-
-pub overflow_mul-lower-2 : goal.overflow_mul-lower-2
-overflow_mul-lower-2 c = omega (arith, (cut (goal.at.overflow_mul-lower-2 c).Start).lower)
-
-pub overflow_add-lower : goal.overflow_add-lower
-overflow_add-lower c = omega (arith, (cut (goal.at.overflow_add-lower c).Start).lower)
-
 pub returns-then-a-upper : goal.returns-then-a-upper
 returns-then-a-upper c =
     let a = c.args.a in
@@ -36,12 +21,6 @@ pub returns-then-e : goal.returns-then-e
 returns-then-e c =
     let g = c.args.g in
     none_above (c.args.a * 2 ^ 52) g (omega (arith, square_is g, (cut (goal.at.returns-then-e c).Start).lower))
-
-pub overflow_add-lower-2 : goal.overflow_add-lower-2
-overflow_add-lower-2 c = omega (arith, (cut (goal.at.overflow_add-lower-2 c).Start).lower)
-
-pub corrected-requires : goal.corrected-requires
-corrected-requires c = (c.requires.1, omega arith, omega (arith, (cut (goal.at.corrected-requires c).Start).lower))
 
 pub returns : goal.returns
 returns c =

@@ -2,7 +2,7 @@
 -- grown is still the box of them all.
 -- Assumes nothing.
 use mathlib.Core.Path.{◌≡◌}
-use Prim.Native.Nat.{ℕ, ◌-◌}
+use Prim.Native.Nat.{ℕ}
 use Rattle.lent.specs.Listed.{listed_to}
 use Rattle.shapes.specs.Box.{inflated}
 use Rattle.shapes.specs.declared.waypoint.Waypoint.{Waypoint}
@@ -14,6 +14,3 @@ abbrev pub invariant-loop-i : goal.invariant-loop-i
 invariant-loop-i l =
     let w : ℕ → Waypoint = waypoint_in l.marks l.places in
     inflated (widened l.b (listed_to w l.to l.i)) l.footprint ≡ box_of_trajectory l.footprint (listed_to w l.to l.from)
-
-abbrev pub decreases-loop-i : goal.decreases-loop-i
-decreases-loop-i l = l.to - l.i

@@ -3,7 +3,7 @@
 -- Assumes nothing.
 use mathlib.Core.Path.{◌≡◌}
 use mathlib.Core.List.{List}
-use Prim.Native.Nat.{ℕ, ◌-◌}
+use Prim.Native.Nat.{ℕ}
 use lib.Ieee.{Float}
 use Rattle.table.specs.Table.{obstacle_count}
 use Rattle.table_packing.specs.Filling.{with_box, put_to, own_box, boxes_in}
@@ -17,6 +17,3 @@ abbrev pub invariant-loop-o : goal.invariant-loop-o
 invariant-loop-o l =
     ((p : ℕ) → own_box l.marks l.places p ≡ own_box l.marks l.initial.places p) ×
     (put_to (box_at l.marks l.initial.places) (obstacle_count l.marks) l.o l.places ≡ boxes_in l.marks l.initial.places)
-
-abbrev pub decreases-loop-o : goal.decreases-loop-o
-decreases-loop-o l = l.n - l.o

@@ -13,7 +13,7 @@ pub returns-then-i-lt288 : goal.returns-then-i-lt288
 unfolding with_time with_place
 returns-then-i-lt288 c =
     let z = c.args.w.time.0 in
-    let fits : SFits w64 z = record { sfits = omega (arith, c.struct_told-1.given.0.1) } in
+    let fits : SFits w64 z = record { sfits = omega arith } in
     let room = lt-ltb _ _ c.if-i-lt288.true in
     record { marked = rw (room, c.of_signed.ensures, read_back z fits); placed = rw room; whole = signed_back z fits }
 
@@ -21,6 +21,6 @@ pub returns-else-i-lt288 : goal.returns-else-i-lt288
 unfolding with_time with_place
 returns-else-i-lt288 c =
     let z = c.args.w.time.0 in
-    let fits : SFits w64 z = record { sfits = omega (arith, c.well_formed.1.1.1.0.1.1.0.1) } in
+    let fits : SFits w64 z = record { sfits = omega arith } in
     let none = le-ltb _ _ c.if-i-lt288.false in
     record { marked = rw none; placed = rw none; whole = signed_back z fits }

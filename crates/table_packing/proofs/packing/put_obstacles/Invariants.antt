@@ -3,7 +3,7 @@
 -- Assumes nothing.
 use mathlib.Core.Path.{◌≡◌}
 use mathlib.Core.List.{List}
-use Prim.Native.Nat.{ℕ, ◌+◌, ◌-◌}
+use Prim.Native.Nat.{ℕ, ◌+◌}
 use lib.ListN.{length}
 use lib.Ieee.{Float}
 use Rattle.table.specs.Lent.{start_in, profile_listed, limit_listed}
@@ -22,6 +22,3 @@ abbrev pub invariant-loop-o : goal.invariant-loop-o
 invariant-loop-o l =
     (put_to (ends_at l.starts l.count) (length l.starts) l.o l.marks ≡ ends_put l.starts l.count l.initial.marks) ×
     (put_to (profile_at l.numbers) (length l.starts) l.o l.places ≡ profiles_put l.starts l.numbers l.initial.places)
-
-abbrev pub decreases-loop-o : goal.decreases-loop-o
-decreases-loop-o l = length l.starts - l.o

@@ -1,22 +1,17 @@
 -- `table_packing::packing::put_waypoints` meets its contract: at each turn, the table with the rest of the waypoints put is still the one with
 -- them all, and the times so far are numbers of 64 bits.
 -- Assumes nothing.
-use mathlib.Core.Path.{◌≡◌, refl, sym, ap, ◌∙◌}
-use mathlib.Core.Logic.{⊎_elim}
+use mathlib.Core.Path.{◌≡◌, refl, sym, ◌∙◌}
 use mathlib.Core.Bool.{Bool, true, false}
 use mathlib.Core.List.{List}
-use Prim.Native.Nat.{ℕ, ◌+◌, ◌≤◌, ◌<◌}
-use native.Mathlib.Nat.{eq-or-lt_of_le}
+use Prim.Native.Nat.{ℕ, ◌<◌}
 use native.Mathlib.Omega.{arith}
 use borrow.Author.Tests.{ltb-true, ltb-false}
 use lib.Dec.{ltb}
 use lib.IntN.{ℤ, pos}
 use lib.ListN.{length, get_or-eq_default}
 use Rattle.number_words.specs.Word.{signed_of}
-use Rattle.table.specs.Lent.{waypoint_listed}
-use Rattle.table_packing.specs.Filling.{put_to, PutsWaypoint}
-use Rattle.table_packing.specs.Packing.{times_put, places_put}
-use Rattle.table_packing.proofs.Stored.{put_next, put_done}
+use Rattle.table_packing.proofs.Stored.{put_done}
 use Rattle.table_packing.proofs.packing.put_waypoints.Goals as goal
 use Rattle.table_packing.proofs.packing.put_waypoints.Invariants.{time_at, place_at, IsWhole}
 
@@ -27,35 +22,6 @@ whole-past times h j = by (ltb j (length times)) refl
     by : (t : Bool) → ltb j (length times) ≡ t → IsWhole times j
     by true e = h j (ltb-true j (length times) e)
     by false e = rw (get_or-eq_default times (pos 0) {n = j} (ltb-false j (length times) e))
-
-pub loop-i-init : goal.loop-i-init
-unfolding times_put places_put
-loop-i-init c = (refl, refl, λ j h. absurd (omega arith))
-
-pub overflow_add-i : goal.overflow_add-i
-overflow_add-i c = omega arith
-
-pub loop-i-smaller : goal.loop-i-smaller
-loop-i-smaller c = omega arith
-
-pub loop-i-preserved : goal.loop-i-preserved
-loop-i-preserved c =
-    let l = c.loop-i in
-    let a = c.args in
-    let times = a.times.now in
-    let xs = a.xs.now in
-    let ys = a.ys.now in
-    let more = c.loop-i-test.true in
-    let put : PutsWaypoint l.i (waypoint_listed times xs ys l.i) l.marks c.put_waypoint.new.marks l.places
-    c.put_waypoint.new.places =
-    rw c.waypoint_at-w.ensures at c.put_waypoint.ensures in (
-      ap (put_to (time_at times xs ys) (length times) (l.i + 1)) put.marked ∙
-          sym (put_next (time_at times xs ys) (length times) l.i l.marks more) ∙ l.invariant.0,
-      ap (put_to (place_at times xs ys) (length times) (l.i + 1)) put.placed ∙
-          sym (put_next (place_at times xs ys) (length times) l.i l.places more) ∙ l.invariant.1,
-      λ j h. ⊎_elim (λ (e : j ≡ l.i). rw e put.whole) (λ (f : j < l.i). l.invariant.2 j f)
-          (eq-or-lt_of_le (let z : j ≤ l.i = omega arith in z)),
-    )
 
 pub returns : goal.returns
 returns c =

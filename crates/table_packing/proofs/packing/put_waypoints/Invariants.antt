@@ -3,7 +3,7 @@
 -- Assumes nothing.
 use mathlib.Core.Path.{◌≡◌}
 use mathlib.Core.List.{List}
-use Prim.Native.Nat.{ℕ, ◌-◌, ◌<◌}
+use Prim.Native.Nat.{ℕ, ◌<◌}
 use lib.IntN.{ℤ, pos}
 use lib.ListN.{length, get_or}
 use lib.Ieee.{Float}
@@ -29,6 +29,3 @@ invariant-loop-i l =
     (put_to (time_at l.times l.xs l.ys) (length l.times) l.i l.marks ≡ times_put l.times l.xs l.ys l.initial.marks) ×
     (put_to (place_at l.times l.xs l.ys) (length l.times) l.i l.places ≡ places_put l.times l.xs l.ys l.initial.places) ×
     ((j : ℕ) → j < l.i → IsWhole l.times j)
-
-abbrev pub decreases-loop-i : goal.decreases-loop-i
-decreases-loop-i l = length l.times - l.i

@@ -14,33 +14,12 @@ loop-k-init c =
     let a = c.args in
     (omega arith, (goes_all (hex_of a.w) a.out.now a.at, λ h. absurd (omega arith)))
 
-pub overflow_sub-k : goal.overflow_sub-k
-overflow_sub-k c = omega arith
-
-pub overflow_mul-k : goal.overflow_mul-k
-overflow_mul-k c = omega arith
-
-pub overflow_shr-w : goal.overflow_shr-w
-overflow_shr-w c = omega arith
-
-pub glyph_of-requires : goal.glyph_of-requires
-glyph_of-requires c = omega arith
-
-pub put_byte-next-requires : goal.put_byte-next-requires
-put_byte-next-requires c = tt
-
-pub loop-k-smaller : goal.loop-k-smaller
-loop-k-smaller c = omega arith
-
 pub loop-k-preserved : goal.loop-k-preserved
 loop-k-preserved c =
     let l = c.loop-k in
     let w : ℕ = c.args.w in
     let put = rw c.glyph_of.ensures at c.put_byte-next.ensures in
     (omega arith, (goes_on (rw (hex_next l.k w (omega arith)) at l.invariant.1.0) put, λ h. put_within put))
-
-pub shape_of-out : goal.shape_of-out
-shape_of-out c = c.loop-k.invariant.1.0.kept
 
 pub returns : goal.returns
 unfolding hex_by

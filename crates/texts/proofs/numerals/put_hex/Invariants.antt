@@ -8,6 +8,3 @@ use Rattle.texts.proofs.numerals.put_hex.Given as goal
 
 abbrev pub invariant-loop-k : goal.invariant-loop-k
 invariant-loop-k l = (l.k ≤ 16) × (Goes (hex_by l.k l.w) l.out l.next (hex_of l.w) l.initial.out l.at × (l.k ≤ 15 → l.next ≤ length l.out + 1))
-
-abbrev pub decreases-loop-k : goal.decreases-loop-k
-decreases-loop-k l = l.k

@@ -9,7 +9,7 @@ use Rattle.floats.proofs.Bounds.{within_of_bounds}
 use Rattle.times.proofs.Cut.{product, can_be_cut}
 use Rattle.number_words.proofs.ReadBack.{read_back}
 use Rattle.times.proofs.time.Duration.from_secs_f64.Goals as goal
-use Rattle.times.proofs.time.Duration.from_secs_f64.Goals.{Else-p, Else-p-2, Then-p, Then-p-2}
+use Rattle.times.proofs.time.Duration.from_secs_f64.Goals.{Then-p, Then-p-2, else-p-via-then-p+else-p-2, else-p-via-else-p}
 
 -- The code's two tests, with the doubles that it writes as literals under the names of the definition.
 above : (c : Then-p) → Ieee.le (Ieee.neg two_to_53) (product c.args.seconds) ≡ true
@@ -19,14 +19,6 @@ above c = c.if-p.true
 below : (c : Then-p-2) → Ieee.le (product c.args.seconds) two_to_53 ≡ true
 unfolding Ieee.of_int Ieee.of_bits
 below c = c.if-p-2.true
-
-past : (c : Else-p-2) → Ieee.le (product c.args.seconds) two_to_53 ≡ false
-unfolding Ieee.of_int Ieee.of_bits
-past c = c.if-p-2.false
-
-short : (c : Else-p) → Ieee.le (Ieee.neg two_to_53) (product c.args.seconds) ≡ false
-unfolding Ieee.of_int Ieee.of_bits
-short c = c.if-p.false
 
 pub truncating_f64_to_i64-requires : goal.truncating_f64_to_i64-requires
 unfolding Ieee.of_int Ieee.of_bits
@@ -46,10 +38,10 @@ returns-then-p-2 c =
       below (goal.at.returns-then-p-2 c).Then-p-2,
     )
 
-pub returns-else-p-2 : goal.returns-else-p-2
-unfolding span_of_seconds
-returns-else-p-2 c = rw (above (goal.at.returns-else-p-2 c).Then-p, past (goal.at.returns-else-p-2 c).Else-p-2)
-
-pub returns-else-p : goal.returns-else-p
-unfolding span_of_seconds
-returns-else-p c = rw (short (goal.at.returns-else-p c).Else-p)
+pub returns : goal.returns
+unfolding span_of_seconds Ieee.of_int Ieee.of_bits
+returns c =
+    elim c.else-p.branch [
+      | else-p-via-then-p+else-p-2 w ↦ rw (w.if-p.true, w.if-p-2.false)
+      | else-p-via-else-p w ↦ rw (w.if-p.false)
+    ]

@@ -1,13 +1,13 @@
--- `times::time::TimePoint::max` meets its contract: the other where this one comes before it, else this one.
+-- `times::time::TimePoint::max` meets its contract: what the order of the two tells.
 -- Assumes nothing.
-use Rattle.std.proofs.Common.{sym, ◌∙◌}
+use Rattle.std.proofs.Common.{rules}
 use Rattle.times.specs.Time.{later_of}
 use Rattle.times.proofs.time.TimePoint.max.Goals as goal
 
-pub returns-then-is_before : goal.returns-then-is_before
+pub returns-then-lt : goal.returns-then-lt
 unfolding later_of
-returns-then-is_before c = rw (sym c.is_before.ensures ∙ c.if-is_before.true)
+returns-then-lt c = search rules
 
-pub returns-else-is_before : goal.returns-else-is_before
+pub returns-else-lt : goal.returns-else-lt
 unfolding later_of
-returns-else-is_before c = rw (sym c.is_before.ensures ∙ c.if-is_before.false)
+returns-else-lt c = search rules

@@ -1,13 +1,13 @@
--- `times::time::TimePoint::min` meets its contract: the other where it comes before this one, else this one.
+-- `times::time::TimePoint::min` meets its contract: what the order of the two tells.
 -- Assumes nothing.
-use Rattle.std.proofs.Common.{sym, ◌∙◌}
+use Rattle.std.proofs.Common.{rules}
 use Rattle.times.specs.Time.{earlier_of}
 use Rattle.times.proofs.time.TimePoint.min.Goals as goal
 
-pub returns-then-is_before : goal.returns-then-is_before
+pub returns-then-lt : goal.returns-then-lt
 unfolding earlier_of
-returns-then-is_before c = rw (sym c.is_before.ensures ∙ c.if-is_before.true)
+returns-then-lt c = search rules
 
-pub returns-else-is_before : goal.returns-else-is_before
+pub returns-else-lt : goal.returns-else-lt
 unfolding earlier_of
-returns-else-is_before c = rw (sym c.is_before.ensures ∙ c.if-is_before.false)
+returns-else-lt c = search rules
