@@ -94,6 +94,15 @@ class Refusals(unittest.TestCase):
         self.assertIn(f"crates/a/must-fail/code_1.edit:{line}: {text}", told)
         return told
 
+    def test_a_conversion_goes_by_both_of_its_types(self):
+        with tempfile.TemporaryDirectory() as folder:
+            crate = pathlib.Path(folder)
+            (crate / "src").mkdir()
+            text = "// A.\nimpl Time {\n    fn since(self) {\n    }\n}\nimpl From<Why> for u64 {\n    fn from(why: Why) -> u64 {\n        1\n    }\n}\n"
+            (crate / "src" / "lib.rt").write_text(text)
+            self.assertEqual(tool.function_at(crate, "src/lib.rt", 8), "U64FromWhy::from")
+            self.assertEqual(tool.function_at(crate, "src/lib.rt", 3), "Time::since")
+
     def test_each_is_refused_in_its_proof(self):
         status, told = self.said()
         self.assertEqual(status, 0, told)

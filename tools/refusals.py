@@ -38,6 +38,7 @@ ERROR = re.compile(r"(?:\./)?((?:src|specs|proofs)/[^:\s]+):\d+:\d+: error: (?:`
 UNPROVED = re.compile(r"note: (?:\./)?(src/[^:\s]+):(\d+):\d+: it is not proved that .*\(`([^`]+)`\)")
 # A function that has no proof file.
 NO_PROOF = re.compile(r"fn \w+::(\S+): no proof: .*`search` did not prove ([^;]*)")
+CONVERSION = re.compile(r"impl (\w+)<(\w+)> for (\w+)")
 RESTS_ON_ANOTHER = re.compile(r"was not admitted|which was (?:rejected|not admitted)")
 UNFIT = re.compile(r"\bhas no (?:field )?`|\bis not in scope")
 # What `rt ci` and `rt must-fail` say of an edit.
@@ -61,6 +62,13 @@ def proof_name(path):
     return path
 
 
+def impl_named(text, item):
+    """How the toolchain names the impl that a function stands in: a type of the project, or a conversion by both of its types."""
+    heads = [line for line in text.splitlines()[: item.line] if line.startswith("impl ")]
+    conversion = CONVERSION.match(heads[-1]) if item.within and heads else None
+    return f"{conversion[3][:1].upper()}{conversion[3][1:]}{conversion[1]}{conversion[2]}" if conversion else item.within
+
+
 def function_at(crate, path, line):
     """The function of a crate's source that stands at a line, which may be one of an attribute above it, by its path."""
     module = [part for part in Path(path).relative_to("src").with_suffix("").parts if part not in ("lib", "main")]
@@ -70,7 +78,7 @@ def function_at(crate, path, line):
         here = next((item for item in functions if item.line > line), None)
     else:
         here = next((item for item in reversed(functions) if item.line <= line), None)
-    return "::".join(filter(None, [*module, *([here.within, here.place.name] if here else [])]))
+    return "::".join(filter(None, [*module, *([impl_named(text, here), here.place.name] if here else [])]))
 
 
 def proof_of(crate, function, goal):
