@@ -25,6 +25,21 @@ HOUSE = {
     "crates/contracts/src/lib.rt": "// Theorems.\n",
 }
 PUBLIC = ["lists::words::hand_over", "lists::words::Word::of_two"]
+WHY = "crates/lists/src/why.rt"
+CONVERTED = """// Why.
+#[derive(Clone, Copy, PartialEq, Eq, PartialOrd, Ord)]
+pub enum Why {
+    Short,
+}
+
+impl From<Why> for u64 {
+    ghost from_gives = { λ why n. n ≡ 1 };
+
+    fn from(why: Why) -> u64 {
+        1
+    }
+}
+"""
 
 
 class Contracts(unittest.TestCase):
@@ -129,15 +144,27 @@ class Contracts(unittest.TestCase):
         self.write("crates/contracts/proofs/gone.antt", "-- Nothing.\n")
         self.assertIn("states theorems of no crate", self.said()[1][0])
 
-    def test_methods_of_library_traits_owe_no_theorem(self):
-        for name in ("refusals::U64FromRefusal::from", "times::time::TimePointPartialOrd::partial_cmp", "refusals::RefusalDebug::fmt"):
-            self.assertTrue(tool.of_a_library_trait(name), name)
-        for name in ("times::time::TimePoint::from_secs_f64", "lent::words::refuse", "path_search::tried::Tried::ended", "a::From::of"):
-            self.assertFalse(tool.of_a_library_trait(name), name)
+    def test_methods_of_traits_have_theorems(self):
+        """A conversion, and the comparisons that a type derives: the toolchain names them by their impls."""
+        self.write(WHY, CONVERTED)
+        made = ["U64FromWhy::from", "WhyPartialEq::eq", "WhyPartialOrd::partial_cmp", "WhyOrd::cmp"]
+        self.proved("lists", [*PUBLIC, *(f"lists::why::{name}" for name in made)])
+        self.assertEqual(self.said(), (0, ["no second answer: 7 functions of 2 crates, a theorem for each"]))
+        text = (self.root / "crates/contracts/proofs/lists.antt").read_text(encoding="utf-8")
+        self.assertIn("use Rattle.lists.specs.contracts.why.U64FromWhy.from as why_u64_from_why_from\n", text)
+        self.assertIn("by_clause 𝓤 why_why_partial_ord_partial_cmp.ended", text)
+        self.assertEqual(self.said("--check")[0], 0)
+        self.assertEqual(self.said("--built")[0], 0)
+        self.assertEqual(len(self.said("--list")[1]), 7)
+        self.write(WHY, CONVERTED.replace(", Ord", ""))
+        self.said()
+        told = f"{tool.LIST}:1: `lists::why::WhyOrd::cmp` is public, and there is no theorem on it"
+        self.assertEqual(self.said("--built"), (1, [told]))
 
-    def test_what_is_cited_by_hand_is_depended_on(self):
-        self.write("crates/contracts/proofs/Rules.antt", "use Rattle.settling.proofs.Facts.{f}\nuse Rattle.low.specs.A.{b}\n")
-        self.assertNotIn("settling", tool.cited_by_hand(tool.Contracts(self.root)))
+    def test_a_derived_trait_that_leaves_its_answer_open(self):
+        self.write(WHY, CONVERTED.replace("Clone, Copy", "Clone, Copy, Debug"))
+        told = f"{WHY}:2: derives `Debug`, and it is not known that its contracts settle an answer"
+        self.assertEqual(self.said(), (1, [told]))
 
     def test_the_house(self):
         contracts = tool.check(ROOT)

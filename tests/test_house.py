@@ -82,6 +82,14 @@ class House(unittest.TestCase):
         self.add("crates/lists/specs/Base.antt", "  -- see Rattle.shapes.proofs.Legs\n")
         self.assertEqual(self.faults(), [])
 
+    def test_what_is_made_of_an_impl_in_the_root_is_of_the_root(self):
+        made = "#[derive(Clone, PartialEq)]\npub enum Why {\n    Short,\n}\nimpl From<Why> for u64 {\n    fn from(w: Why) -> u64 {}\n}\n"
+        self.add("crates/lists/src/lib.rt", made)
+        names = ("specs.contracts.U64FromWhy.from", "proofs.WhyPartialEq.eq.Met", "specs.contracts.WhyOrd.cmp")
+        self.write("crates/lists/proofs/Laws.antt", "-- Laws.\n" + "".join(f"use Rattle.lists.{name} as m\n" for name in names))
+        told = "cites `Rattle.lists.specs.contracts.WhyOrd.cmp`, and no file of the house has it"
+        self.assertEqual(self.faults(), [f"crates/lists/proofs/Laws.antt:4: {told}"])
+
     def test_a_citation_of_no_file(self):
         lines = "use Rattle.lists.specs.Missing.{m}\nuse Rattle.nothing.specs.X.{m}\nuse Rattle.\n"
         self.add("crates/lists/specs/Base.antt", lines)

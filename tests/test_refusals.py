@@ -250,6 +250,12 @@ class Refusals(unittest.TestCase):
         with mock.patch.dict(tool.ELSEWHERE, {"a::time::TimePoint::since": "it has one"}):
             self.assertIn("there is a fault for `a::time::TimePoint::since`, and a reason", self.said("--form")[1])
 
+    def test_a_conversion_owes_a_fault_and_a_derived_comparison_none(self):
+        own = "#[derive(Clone, Copy, PartialEq)]\npub struct Why;\nimpl From<Why> for u64 {\n    fn from(w: Why) -> u64 {\n    }\n}\n"
+        self.write("crates/a/src/time.rt", SOURCE + own)
+        lone = "crates/a/src/time.rt:12: there is no fault for `a::time::U64FromWhy::from`, which is public\n"
+        self.assertEqual(self.said("--form"), (1, lone))
+
     def test_the_functions_without_a_fault_are_there(self):
         self.assertLessEqual(tool.ELSEWHERE.keys(), {contract.name for contract in contracts.Contracts(ROOT).all})
 

@@ -42,13 +42,16 @@ def whole(text):
 
 
 def defined():
-    """For each question of the definitions what is found, and for some what is ranked, with the contours."""
+    """For each question of the definitions what is found, for some what is ranked, with the contours, and the number of a refusal."""
     text = (ROOT / "crates" / "hint_examples" / "specs" / "Worked.antt").read_text()
-    found, ranked = {}, {}
+    found, ranked, told = {}, {}, {}
     for call, kind, metres, start, x, y, s, u, v, t, answer in FIELD.findall(text):
         cart = ((whole(s), number(x), number(y)), (whole(t), number(u), number(v)))
         question = (whole(metres), whole(start), FOOTPRINTS[kind], cart)
-        if call == "walked":
+        by_number = re.match(r"\) ≡ (\d+)\s*$", answer)
+        if by_number:
+            told[question] = int(by_number[1])
+        elif call == "walked":
             refused = re.search(r"≡ Refused Refusals\.(\w+)", answer)
             hints = [(number(at), whole(until)) for at, until in HINT.findall(answer)]
             found[question] = numbers_of_refusals()[refused[1]] if refused else hints
@@ -56,7 +59,7 @@ def defined():
             sign = {"lasting": 1, "early": -1}
             hints = RANKED.findall(answer)
             ranked[question] = [(sign[s] * whole(contour), number(at), whole(until)) for s, contour, at, until in hints]
-    return found, ranked
+    return found, ranked, told
 
 
 def run():
@@ -72,16 +75,17 @@ def run():
 
 class Worked(unittest.TestCase):
     def test_the_oracle_has_the_examples_of_the_definitions(self):
-        found, _ = defined()
+        found, _, _ = defined()
         examples, count, _ = run()
         self.assertEqual(len(examples), count)
         self.assertGreater(count, 20)
         self.assertEqual(set(found), set(examples))
 
     def test_the_hints_are_the_same(self):
-        found, ranked = defined()
+        found, ranked, told = defined()
         examples, _, refused = run()
-        self.assertEqual([str(hints) for hints in found.values() if isinstance(hints, int)], refused)
+        self.assertEqual({question: hints for question, hints in found.items() if isinstance(hints, int)}, told)
+        self.assertEqual([str(hints) for hints in told.values()], refused)
         for question, hints in found.items():
             with self.subTest(question):
                 plain = [(at, until) for _, at, until in examples[question]]

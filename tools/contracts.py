@@ -15,15 +15,12 @@ import sys
 from pathlib import Path
 from typing import NamedTuple
 
-from house import Fault, House, line_of, run
+from house import DERIVED, Fault, House, impls_of_traits, line_of, run
 
 CRATE = "contracts"
 FOLDER = f"crates/{CRATE}/proofs"
 LIST = f"{FOLDER}/Lib.antt"
 WRITTEN = ("Rules",)
-# How the toolchain names the impls of the library's traits: the type, then the trait; a conversion by both of its types.
-LIBRARY_IMPL = re.compile(r"[A-Z]\w*(?:Debug|PartialEq|Eq|PartialOrd|Ord)|[A-Z]\w*From[A-Z]\w*")
-CITED = re.compile(r"\bRattle\.(\w+)\.")
 # The claim, and what every proof goes by.
 CLAIM = "settling"
 OWN = "crates/{}/proofs/Public.antt"
@@ -36,18 +33,21 @@ IMPL = re.compile(r"^impl (\w+)[^\n]*\{\n(.*?)^\}", re.M | re.S)
 FUNCTION = re.compile(r"\bfn\s")
 CLAUSE = re.compile(r"\bensures\b")
 BY = {1: "by_clause", 2: "by_clauses"}
+# A conversion and a comparison promise by one clause, which stands in the trait.
+OF_A_TRAIT = 1
 # A word of a type's name, as `Time` and `Point` of `TimePoint`.
 INSIDE = re.compile(r"(?<=[a-z0-9])(?=[A-Z])")
 
 
 class Function(NamedTuple):
-    """A public function: its crate, its path there, its place, and how many clauses are promised."""
+    """A public function: its crate, its path there, its place, how many clauses are promised, and whether it is derived."""
 
     crate: str
     path: tuple
     file: str
     line: int
     clauses: int
+    is_derived: bool = False
 
     @property
     def name(self):
@@ -89,18 +89,25 @@ class Contracts:
 
 
 def read_source(contracts, source):
-    """The public functions of a file of src/."""
+    """The public functions of a file of src/, and then the methods of the traits that its types have."""
     holders = [(match.start(), match.end(), match[1]) for match in IMPL.finditer(source.code)]
-    module = Path(source.inside).relative_to("src").with_suffix("").parts
+    module = [part for part in Path(source.inside).relative_to("src").with_suffix("").parts if part not in ("lib", "main")]
     for match in PUBLIC.finditer(source.code):
         line = line_of(source.code, match.start(1))
         inside = [name for start, end, name in holders if start < match.start() < end]
-        path = (*(part for part in module if part not in ("lib", "main")), *inside, match[1])
+        path = (*module, *inside, match[1])
         clauses = len(CLAUSE.findall(FUNCTION.split(source.code[match.end() :], maxsplit=1)[0]))
         function = Function(source.crate, path, source.file, line, clauses)
         if clauses not in BY:
             contracts.fault(source.file, line, f"`{function.name}` promises by {clauses} clauses, and there is no lemma for so many")
         yield function
+    for impl in impls_of_traits(source.code):
+        if impl.is_derived and impl.trait not in DERIVED:
+            line = line_of(source.code, impl.start)
+            contracts.fault(source.file, line, f"derives `{impl.trait}`, and it is not known that its contracts settle an answer")
+        for method, at in impl.methods:
+            path = (*module, impl.name, method)
+            yield Function(source.crate, path, source.file, line_of(source.code, at), OF_A_TRAIT, impl.is_derived)
 
 
 def theorem(function):
@@ -143,16 +150,8 @@ def pages(contracts):
         listed += [] if own else [crate]
     files[LIST] = "".join(f"pub mod {name}\n" for name in (*WRITTEN, *listed))
     crates = (contracts.house.root / CRATES).read_text(encoding="utf-8")
-    cited = [name for name in cited_by_hand(contracts) if name not in listed]
-    files[CRATES] = DEPENDS.sub(f"{CRATE}: {' '.join((CLAIM, *cited, *listed))}", crates)
+    files[CRATES] = DEPENDS.sub(f"{CRATE}: {' '.join((CLAIM, *listed))}", crates)
     return files
-
-
-def cited_by_hand(contracts):
-    """The crates that the proofs cite which are written by hand, in the house's order."""
-    texts = [(contracts.house.root / f"{FOLDER}/{name}.antt") for name in WRITTEN]
-    named = {crate for file in texts if file.exists() for crate in CITED.findall(file.read_text(encoding="utf-8"))}
-    return [crate for crate in contracts.house.crates if crate in named - {CLAIM, CRATE}]
 
 
 def full_list(contracts):
@@ -188,11 +187,6 @@ def check(root):
     return contracts
 
 
-def of_a_library_trait(name):
-    """Whether a function is a method of a derived trait or of a conversion, which answers by its trait's own statement."""
-    return any(LIBRARY_IMPL.fullmatch(part) for part in name.split("::")[:-1])
-
-
 def built(root):
     """The same, compared with what the toolchain says is public of each library; what no crate depends on is made into none."""
     contracts = check(root)
@@ -206,8 +200,7 @@ def built(root):
         elif crate in libraries:
             contracts.fault(CRATES, 1, f"`{crate}` is not proved, so what is public there is not known")
     for name in sorted(public - stated.keys()):
-        if not of_a_library_trait(name):
-            contracts.fault(LIST, 1, f"`{name}` is public, and there is no theorem on it")
+        contracts.fault(LIST, 1, f"`{name}` is public, and there is no theorem on it")
     for name in sorted(stated.keys() - public):
         if stated[name].crate in libraries:
             contracts.fault(stated[name].file, stated[name].line, f"`{name}` is not among what the toolchain says is public")

@@ -47,6 +47,12 @@ MODULE = re.compile(r"^(?:pub(?:\(crate\))? )?mod ([\w+]+)", re.M)
 TYPE = re.compile(r"^(?:pub(?:\(crate\))? )?(?:struct|enum|type) (\w+)\s*(\{.*?^\}|[(=].*?;)", re.M | re.S)
 FUNCTION = re.compile(r"\bfn (\w+)\s*\((.*?)(?:\brequires\b|\bensures\b|\{)", re.S)
 
+# An impl of a trait, by hand or derived by a public type, and the methods that a type gets by each trait that it may derive.
+OF_TRAIT = re.compile(r"^impl (\w+)(?:<(\w+)>)? for (\w+)[^\n]*\{\n(.*?)^\}", re.M | re.S)
+METHOD = re.compile(r"^[ \t]*fn (\w+)", re.M)
+DERIVE = re.compile(r"^#\[derive\(([^)]*)\)\]\s*(?:#\[[^\n]*\]\s*)*pub (?:struct|enum) (\w+)", re.M)
+DERIVED = {"Clone": (), "Copy": (), "PartialEq": ("eq",), "Eq": (), "PartialOrd": ("partial_cmp",), "Ord": ("cmp",)}
+
 
 class Fault(NamedTuple):
     file: str
@@ -108,6 +114,28 @@ class Source:
     def is_list(self):
         """Whether the file only declares the others of its folder."""
         return self.kind != "src" and self.inside == f"{self.kind}/Lib.antt"
+
+
+class Impl(NamedTuple):
+    """An impl of a trait: the trait, the toolchain's name of the impl, its place in the text, and each method with its own place."""
+
+    trait: str
+    name: str
+    start: int
+    methods: tuple
+    is_derived: bool
+
+
+def impls_of_traits(code):
+    """The impls of traits in a file of src/. The toolchain names one by its type and trait, a conversion by both of its types."""
+    for match in OF_TRAIT.finditer(code):
+        trait, other, of, body = match.groups()
+        methods = tuple((method[1], match.start(4) + method.start(1)) for method in METHOD.finditer(body))
+        yield Impl(trait, f"{of[:1].upper()}{of[1:]}{trait}{other or ''}", match.start(), methods, False)
+    for match in DERIVE.finditer(code):
+        for trait in re.findall(r"\w+", match[1]):
+            methods = tuple((method, match.start()) for method in DERIVED.get(trait, ()))
+            yield Impl(trait, f"{match[2]}{trait}", match.start(), methods, True)
 
 
 class House:
@@ -192,8 +220,9 @@ def code_file(house, crate, parts):
     root = house.root_file(crate)
     if found or not root or not parts:
         return found
-    own = re.search(rf"\b(?:struct|enum|type|fn|const) {re.escape(parts[0])}\b", house.sources[root].code)
-    return (root, parts[0]) if own else None
+    code = house.sources[root].code
+    own = re.search(rf"\b(?:struct|enum|type|fn|const) {re.escape(parts[0])}\b", code)
+    return (root, parts[0]) if own or any(impl.name == parts[0] for impl in impls_of_traits(code)) else None
 
 
 def rattle_file(house, name):

@@ -30,6 +30,7 @@ from coverage import FUNCTION, items_of
 from faults import Fact, read_all
 from figures import OF_FUNCTIONS
 from house import Fault as Found
+from house import impls_of_traits, line_of
 
 ROOT = Path(__file__).resolve().parents[1]
 KEPT = "target/refusals"
@@ -38,7 +39,6 @@ ERROR = re.compile(r"(?:\./)?((?:src|specs|proofs)/[^:\s]+):\d+:\d+: error: (?:`
 UNPROVED = re.compile(r"note: (?:\./)?(src/[^:\s]+):(\d+):\d+: it is not proved that .*\(`([^`]+)`\)")
 # A function that has no proof file.
 NO_PROOF = re.compile(r"fn \w+::(\S+): no proof: .*`search` did not prove ([^;]*)")
-CONVERSION = re.compile(r"impl (\w+)<(\w+)> for (\w+)")
 RESTS_ON_ANOTHER = re.compile(r"was not admitted|which was (?:rejected|not admitted)")
 UNFIT = re.compile(r"\bhas no (?:field )?`|\bis not in scope")
 # What `rt ci` and `rt must-fail` say of an edit.
@@ -63,10 +63,9 @@ def proof_name(path):
 
 
 def impl_named(text, item):
-    """How the toolchain names the impl that a function stands in: a type of the project, or a conversion by both of its types."""
-    heads = [line for line in text.splitlines()[: item.line] if line.startswith("impl ")]
-    conversion = CONVERSION.match(heads[-1]) if item.within and heads else None
-    return f"{conversion[3][:1].upper()}{conversion[3][1:]}{conversion[1]}{conversion[2]}" if conversion else item.within
+    """How the toolchain names the impl that a function stands in: a type of the project, or a trait's impl by its own name."""
+    of_traits = {line_of(text, at): impl.name for impl in impls_of_traits(text) for _, at in impl.methods}
+    return of_traits.get(item.line, item.within)
 
 
 def function_at(crate, path, line):
@@ -149,7 +148,8 @@ def uncovered(root, edits):
     """The public functions for which there is no fault, and no reason why not."""
     refused = {(fault.crate, *fact) for faults in edits.values() for fault in faults for fact in fault.refused}
     named = {f"{crate}::{proof}" for crate, proof, _ in refused}
-    public = Contracts(root).all
+    # what is derived has no text that a fault could change
+    public = [contract for contract in Contracts(root).all if not contract.is_derived]
     # a fault may leave the code right and the contract open: what is refused is then that there is no second answer
     named |= {contract.name for contract in public if (contract.crate, "proofs/Public.antt", contract.theorem) in refused}
     for contract in public:

@@ -129,7 +129,7 @@ module _ (g : Waypoint) (limit : Float) (w : ℕ → Waypoint) where
     legs n = watched_legs limit (listed leg n from)
 
     -- The walk that takes the last waypoint's time for the finish is the obstacle's (RULES 12.5, 12.10).
-    adjust_begins : look (view_at g) c (w end).time (legs (end - from)) ≡ adjust (view_at g) c (legs (end - from))
+    pub adjust_begins : look (view_at g) c (w end).time (legs (end - from)) ≡ adjust (view_at g) c (legs (end - from))
     unfolding look adjust watched_legs listed
     adjust_begins = by (end - from) refl
       where
@@ -141,7 +141,7 @@ module _ (g : Waypoint) (limit : Float) (w : ℕ → Waypoint) where
             ap (λ (t : TimePoint). look (view_at g) c t (legs (suc n))) (sym finishes)
 
     -- The walk that ends with what the last waypoint gives is the obstacle's (RULES 12.15, 12.16).
-    next_begins : from < end →
+    pub next_begins : from < end →
         next_in (view_at g) c (Ok (ending_of g limit (w end) c)) (legs (end - from)) ≡ next (view_at g) c (legs (end - from))
     unfolding next_in next watched_legs listed
     next_begins h = by (end - from) refl

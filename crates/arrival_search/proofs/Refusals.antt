@@ -1,7 +1,5 @@
 -- What a search is refused by, unless it is stuck, from those of its legs: any, any but 8, or the legs' own (RULES D3e).
 -- Assumes nothing.
-use mathlib.Core.Path.{ap}
-use mathlib.Core.Bool.{true≢false}
 use mathlib.Core.Logic.{◌≢◌, ◌⊎◌, inl, inr}
 use mathlib.Core.List.{List}
 use Prim.Native.Nat.{◌<◌}
@@ -38,17 +36,17 @@ module _ {Leg : Type 0} (v : View Leg) where
         all_of (ObstacleGives v Any Any) (λ o. refused_by Any o (all_of (Refuses v Any) own o) (inl tt)) os
 
     -- Where the legs are refused by numbers below 8 (RULES D3e).
-    pub not_by_eight : All (All (Early v)) os → All (ObstacleGives v Any (λ why. why ≢ Refusals.Stuck)) os
+    pub not_by_eight : All (All (Early v)) os → All (ObstacleGives v Any (λ why. refusal_number why ≢ 8)) os
     not_by_eight early =
-        let R : Refusal → Type 0 = λ why. why ≢ Refusals.Stuck in
+        let R : Refusal → Type 0 = λ why. refusal_number why ≢ 8 in
         all_map (All (Early v)) (ObstacleGives v Any R)
         (λ o h. refused_by R o (all_map (Early v) (Refuses v R) (early_refuses R below) o h) (inl nine)) os early
       where
-        below : (why : Refusal) → refusal_number why < 8 → why ≢ Refusals.Stuck
-        below why h same = let number = ap refusal_number same in omega arith
+        below : (why : Refusal) → refusal_number why < 8 → refusal_number why ≢ 8
+        below why h same = omega arith
 
-        nine : Refusals.Late ≢ Refusals.Stuck
-        nine same = absurd (true≢false cc)
+        nine : refusal_number Refusals.Late ≢ 8
+        nine same = omega arith
 
     -- Where no exit is late, since an obstacle's legs are ruled (RULES 12.9).
     pub by_legs : (R : Refusal → Type 0) → All (Ruled v) os → All (All (Refuses v R)) os → All (ObstacleGives v Any R) os

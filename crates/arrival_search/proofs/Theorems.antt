@@ -1,8 +1,7 @@
 -- The arrival search cannot wander: demand 3, of any legs but where a theorem says what it asks of them.
 -- Assumes nothing.
-use mathlib.Core.Path.{◌≡◌, refl, ap, ◌∙◌}
-use mathlib.Core.Bool.{true≢false}
-use mathlib.Core.Logic.{◌≢◌, ◌↔◌, ◌⊎◌, ⊎_elim}
+use mathlib.Core.Path.{◌≡◌, refl, sym, ap, subst, ◌∙◌}
+use mathlib.Core.Logic.{◌≢◌, ◌↔◌, ◌⊎◌, inl, inr, ⊎_elim}
 use mathlib.Core.List.{List, []}
 use Prim.Native.Nat.{ℕ, ◌+◌, ◌≤◌, ◌<◌}
 use native.Mathlib.Nat.{zero-add}
@@ -66,21 +65,31 @@ module _ {Leg : Type 0} (v : View Leg) (os : List (List Leg)) (asked : TimePoint
   pub sources : {l : List TimePoint} {n : ℕ} → arrivals v os asked ≡ Answered l n → All (Source v os asked) l
   sources e = (gives_listed v os asked (answered e).given).sources
 
+  -- The search is refused by such a number (RULES, section 4).
+  abbrev pub RefusedBy : ℕ → Type 0
+  RefusedBy n = (why : Refusal) × ((arrivals v os asked ≡ Refused why) × (refusal_number why ≡ n))
+
   -- A sweep that is reached, pushes, each push with a result, and ends where it began is refused 8, whatever the legs,
   pub stuck_is_refused : Stuck v os asked → arrivals v os asked ≡ Refused Refusals.Stuck
   unfolding arrivals
   stuck_is_refused s =
       stuck_refused v os s.reached s.back (legs_in os + watched_obstacles os + 1) [] 0 (omega (arith, remaining_bound v os asked))
 
+  pub stuck_is_8 : Stuck v os asked → RefusedBy 8
+  stuck_is_8 s = (Refusals.Stuck, (stuck_is_refused s, refl))
+
   -- and nothing else is, where no leg itself is refused by 8 or more (RULES D3e).
-  pub stuck : All (All (Early v)) os → (arrivals v os asked ≡ Refused Refusals.Stuck) ↔ Stuck v os asked
-  stuck early = (is_stuck, stuck_is_refused)
+  pub stuck_8 : All (All (Early v)) os → RefusedBy 8 ↔ Stuck v os asked
+  stuck_8 early = (is_stuck, stuck_is_8)
     where
-      is_stuck : arrivals v os asked ≡ Refused Refusals.Stuck → Stuck v os asked
-      is_stuck e =
-          let R : Refusal → Type 0 = λ why. why ≢ Refusals.Stuck in
-          ⊎_elim (λ not_eight. absurd (not_eight refl)) (λ s. s.1)
-          (rw e at (arrivals_ran v os R (not_by_eight v os early) asked))
+      is_stuck : RefusedBy 8 → Stuck v os asked
+      is_stuck r =
+          let R : Refusal → Type 0 = λ why. refusal_number why ≢ 8 in
+          ⊎_elim (λ not_eight. absurd (not_eight r.1.1)) (λ s. s.1)
+          (rw r.1.0 at (arrivals_ran v os R (not_by_eight v os early) asked))
+
+  pub stuck : All (All (Early v)) os → (arrivals v os asked ≡ Refused Refusals.Stuck) ↔ Stuck v os asked
+  stuck early = (λ e. (stuck_8 early).0 (Refusals.Stuck, (e, refl)), stuck_is_refused)
 
   -- A search that is not stuck is refused as its legs are, where these follow one another and none has an exit before its start
   -- (RULES 12.9),
@@ -88,12 +97,16 @@ module _ {Leg : Type 0} (v : View Leg) (os : List (List Leg)) (asked : TimePoint
       {why : Refusal} → arrivals v os asked ≡ Refused why → R why ⊎ ((why ≡ Refusals.Stuck) × Stuck v os asked)
   refused R ruled legs e = rw e at (arrivals_ran v os R (by_legs v os R ruled legs) asked)
 
-  -- so never by 9 where those are below 8.
-  pub never_nine : All (Ruled v) os → All (All (Early v)) os → arrivals v os asked ≢ Refused Refusals.Late
-  never_nine ruled early e = ⊎_elim nine (λ s. eight s.0) (refused (λ why. refusal_number why < 8) ruled (below_eight v os early) e)
-    where
-      nine : refusal_number Refusals.Late < 8 → ⊥
-      nine h = omega arith
+  pub refused_8 : (R : ℕ → Type 0) → All (Ruled v) os → All (All (Refuses v (λ why. R (refusal_number why)))) os →
+      {n : ℕ} → RefusedBy n → R n ⊎ ((n ≡ 8) × Stuck v os asked)
+  refused_8 R ruled legs r =
+      ⊎_elim (λ own. inl (subst R r.1.1 own)) (λ s. inr (sym r.1.1 ∙ ap refusal_number s.0, s.1))
+      (refused (λ why. R (refusal_number why)) ruled legs r.1.0)
 
-      eight : Refusals.Late ≢ Refusals.Stuck
-      eight same = absurd (true≢false cc)
+  -- so never by 9 where those are below 8.
+  pub never_9 : All (Ruled v) os → All (All (Early v)) os → RefusedBy 9 → ⊥
+  never_9 ruled early r =
+      ⊎_elim (λ below. omega arith) (λ s. omega (arith, s.0)) (refused_8 (λ n. n < 8) ruled (below_eight v os early) r)
+
+  pub never_nine : All (Ruled v) os → All (All (Early v)) os → arrivals v os asked ≢ Refused Refusals.Late
+  never_nine ruled early e = never_9 ruled early (Refusals.Late, (e, refl))

@@ -2,7 +2,7 @@
 use times::time::TimePoint;
 
 // One obstacle: it does not push; pushes to an instant; or pushes with no result.
-#[derive(Clone, Copy, Debug, PartialEq, Eq)]
+#[derive(Clone, Copy, PartialEq, Eq)]
 pub enum Adjustment {
     Quiet,
     Pushed(TimePoint),
@@ -10,7 +10,7 @@ pub enum Adjustment {
 }
 
 // A sweep over all: none pushed; the candidate was pushed to an instant; or a push had no result.
-#[derive(Clone, Copy, Debug, PartialEq, Eq)]
+#[derive(Clone, Copy, PartialEq, Eq)]
 pub enum Swept {
     Still,
     Moved(TimePoint),
@@ -19,7 +19,7 @@ pub enum Swept {
 
 // What follows a sweep: the search ends; the candidate is listed and it ends; the next sweep begins at an instant; or the
 // candidate is listed and the next sweep begins at an instant.
-#[derive(Clone, Copy, Debug, PartialEq, Eq)]
+#[derive(Clone, Copy, PartialEq, Eq)]
 pub enum Turn {
     Ends,
     Lists,

@@ -36,7 +36,8 @@ stored_times : {answer : Searched} {times : List TimePoint} {n : ℕ} {lent left
     (length times ≤ length lent → take (length times) left ≡ nanoseconds_of times) →
     Stored answer lent left (Ok (record { listed = length times; sweeps = n }))
 unfolding arrival_counts
-stored_times {answer} {times} {n} {lent} {left} e long front = record { counts = rw e; long = long; front = all }
+stored_times {answer} {times} {n} {lent} {left} e long front =
+    record { counts = rw e; long = long; front = all; ended = λ f. absurd (true≢false (cc (sym e ∙ f))) }
   where
     all : (l : List TimePoint) (m : ℕ) → answer ≡ Answered l m → length l ≤ length lent → take (length l) left ≡ nanoseconds_of l
     all l m f h = let same : times ≡ l = cc (sym e ∙ f) in rw (← same) (front (rw same h))
@@ -122,6 +123,11 @@ module _ {p : CircularProfile} {place : Waypoint} {os : List Obstacle} {lent : L
   unfolding arrival_counts arrivals_at
   kept_refused e f =
       let refused = going_refused k.going e in
-      record { counts = f ∙ rw refused; long = k.long; front = λ l m g h. absurd (true≢false (cc (sym refused ∙ g))) }
+      record {
+        counts = f ∙ rw refused;
+        long = k.long;
+        front = λ l m g h. absurd (true≢false (cc (sym refused ∙ g)));
+        ended = λ g. absurd (true≢false (cc (sym refused ∙ g)));
+      }
 
 pub ruleset keeping = (kept_start, kept_goes, kept_lists_goes, table_few)

@@ -1,5 +1,6 @@
 mod Sweeping
 mod Keeping
+mod Wiping
 mod Telling
 pub mod Few
 mod Room

@@ -22,7 +22,7 @@ use Rattle.std.specs.Prelude.{Option}
 use Rattle.refusals.specs.declared.Refusal.{Refusal}
 
 -- The legs of the track of obstacle o of a table are the obstacle's; its box plays no part (RULES 12.1).
-obstacle_watched : (p : CircularProfile) (marks : List ℕ) (places : List Float) (o : ℕ) →
+pub obstacle_watched : (p : CircularProfile) (marks : List ℕ) (places : List Float) (o : ℕ) →
     let track = track_in p marks places o in
     tracked_from track marks places track.first ≡ watched_of p (obstacle_in marks places o)
 unfolding track_in

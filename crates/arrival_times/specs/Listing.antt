@@ -1,6 +1,6 @@
 -- The times that a search lists, in a list that it is lent (RULES 4.12, 4.14, 4.15, 12.18).
 -- Assumes nothing.
-use Rattle.std.specs.Prelude.{ℕ, ◌-◌, ◌≤◌, ◌≡◌, cond, List, [], ◌∷◌, ◌++◌, ltb, ℤ, pos, length, take, replicate}
+use Rattle.std.specs.Prelude.{ℕ, ◌-◌, ◌≤◌, ◌≡◌, ◌≢◌, cond, List, [], ◌∷◌, ◌++◌, ltb, ℤ, pos, length, take, replicate}
 use Rattle.times.specs.declared.time.TimePoint.{TimePoint}
 use Rattle.arrival_search.specs.Search.{Searched, Answered, Refused, Unfinished}
 use Rattle.std.specs.Prelude.{Result, Ok, Err}
@@ -13,8 +13,8 @@ unfoldable pub nanoseconds_of : List TimePoint → List ℤ
 nanoseconds_of [] = []
 nanoseconds_of (t ∷ ts) = t.0 ∷ nanoseconds_of ts
 
--- How many times and sweeps, or the refusal. `Unfinished` is never the answer (`finished` of arrival_search, proofs/Theorems), so
--- any refusal may stand for it.
+-- How many times and sweeps, or the refusal. `Unfinished` is never the answer (`finished` of arrival_search, proofs/Theorems): what
+-- is told of an answer says so beside, so any refusal may stand for it here.
 unfoldable pub arrival_counts : Searched → Result Arrivals Refusal
 arrival_counts (Answered l n) = Ok (record { listed = length l; sweeps = n })
 arrival_counts (Refused why) = Err why
@@ -31,6 +31,7 @@ pub record Stored (answer : Searched) (lent left : List ℤ) (r : Result Arrival
   pub long : length left ≡ length lent
   pub front : (l : List TimePoint) (n : ℕ) → answer ≡ Answered l n → length l ≤ length lent →
       take (length l) left ≡ nanoseconds_of l
+  pub ended : answer ≢ Unfinished
 
 -- What is handed back, with so many places: 12 where they are too few (RULES 4.12).
 unfoldable pub counts_in : Searched → ℕ → Result Arrivals Refusal
@@ -48,3 +49,4 @@ times_in Unfinished room = replicate room (pos 0)
 pub record Told (answer : Searched) (lent left : List ℤ) (r : Result Arrivals Refusal) : Type 0 where
   pub counts : r ≡ counts_in answer (length lent)
   pub times : left ≡ times_in answer (length lent)
+  pub ended : answer ≢ Unfinished

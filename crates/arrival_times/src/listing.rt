@@ -12,7 +12,7 @@ use shapes::waypoint::Waypoint;
 use times::time::TimePoint;
 
 // How many times are listed, and by how many sweeps.
-#[derive(Clone, Copy, Debug, PartialEq, Eq)]
+#[derive(Clone, Copy, PartialEq, Eq)]
 pub struct Arrivals {
     pub listed: usize,
     pub sweeps: usize,

@@ -34,7 +34,7 @@ pub record Entered (agent : Leg) (bounds : BoundingBox) (obstacle : Leg) (other 
   pub closing : is_closing reached.quadratic (seconds_of reached.since.span.0) ≡ true
 
 -- An answer that has an entry is judged by it.
-with_entry : (limit : Float) (agent obstacle : Leg) (p : Result Proximity Refusal) (t : TimePoint) → entry_of p ≡ Some t →
+pub with_entry : (limit : Float) (agent obstacle : Leg) (p : Result Proximity Refusal) (t : TimePoint) → entry_of p ≡ Some t →
     judged limit agent obstacle p ≡ entered_at limit agent obstacle t
 with_entry limit agent obstacle (Ok P.Never) t e = cc
 with_entry limit agent obstacle (Ok (P.Enters u)) t e = cc

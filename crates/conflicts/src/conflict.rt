@@ -12,7 +12,7 @@ use shapes::waypoint::Leg;
 use times::time::TimePoint;
 
 // No conflict, or a conflict.
-#[derive(Clone, Copy, Debug, PartialEq, Eq)]
+#[derive(Clone, Copy, PartialEq, Eq)]
 pub enum Verdict {
     Clear,
     Conflict,

@@ -1,4 +1,5 @@
 pub mod Rules
+pub mod refusals
 pub mod lent
 pub mod floats
 pub mod root

@@ -8,6 +8,9 @@ use Rattle.arrival_times.proofs.calls.arrival_times.Met as calls_arrival_times_m
 use Rattle.arrival_times.specs.contracts.listing.compute_safe_arrival_times as listing_compute_safe_arrival_times
 use Rattle.arrival_times.proofs.listing.compute_safe_arrival_times.Symbol as listing_compute_safe_arrival_times_symbol
 use Rattle.arrival_times.proofs.listing.compute_safe_arrival_times.Met as listing_compute_safe_arrival_times_met
+use Rattle.arrival_times.specs.contracts.listing.ArrivalsPartialEq.eq as listing_arrivals_partial_eq_eq
+use Rattle.arrival_times.proofs.listing.ArrivalsPartialEq.eq.Symbol as listing_arrivals_partial_eq_eq_symbol
+use Rattle.arrival_times.proofs.listing.ArrivalsPartialEq.eq.Met as listing_arrivals_partial_eq_eq_met
 use Rattle.arrival_times.specs.contracts.soonest.soonest_of as soonest_soonest_of
 use Rattle.arrival_times.proofs.soonest.soonest_of.Symbol as soonest_soonest_of_symbol
 use Rattle.arrival_times.proofs.soonest.soonest_of.Met as soonest_soonest_of_met
@@ -39,6 +42,16 @@ listing_compute_safe_arrival_times_determined = record {
   free = λ M 𝓤 𝓛 mem run κs a. (tt, id⊢ 𝓤 (emp 𝓤));
   one = λ M 𝓤 𝓛 mem run κs a g g' r r' left left' s s'.
       by_clause 𝓤 listing_compute_safe_arrival_times.ended κs a r r' left left' (λ p q. (search one_answer, search one_answer)) s s';
+}
+
+pub listing_arrivals_partial_eq_eq_determined :
+    Determined listing_arrivals_partial_eq_eq_symbol.code listing_arrivals_partial_eq_eq_symbol.name listing_arrivals_partial_eq_eq.ended (λ M 𝓤. listing_arrivals_partial_eq_eq.clauses)
+listing_arrivals_partial_eq_eq_determined = record {
+  met = λ M. listing_arrivals_partial_eq_eq_met.met;
+  kept = refl;
+  free = λ M 𝓤 𝓛 mem run κs a. (tt, id⊢ 𝓤 (emp 𝓤));
+  one = λ M 𝓤 𝓛 mem run κs a g g' r r' left left' s s'.
+      by_clause 𝓤 listing_arrivals_partial_eq_eq.ended κs a r r' left left' (λ p q. (search one_answer, search one_answer)) s s';
 }
 
 pub soonest_soonest_of_determined :

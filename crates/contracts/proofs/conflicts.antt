@@ -14,6 +14,9 @@ use Rattle.conflicts.proofs.conflict.entered_at.Met as conflict_entered_at_met
 use Rattle.conflicts.specs.contracts.conflict.have_conflict as conflict_have_conflict
 use Rattle.conflicts.proofs.conflict.have_conflict.Symbol as conflict_have_conflict_symbol
 use Rattle.conflicts.proofs.conflict.have_conflict.Met as conflict_have_conflict_met
+use Rattle.conflicts.specs.contracts.conflict.VerdictPartialEq.eq as conflict_verdict_partial_eq_eq
+use Rattle.conflicts.proofs.conflict.VerdictPartialEq.eq.Symbol as conflict_verdict_partial_eq_eq_symbol
+use Rattle.conflicts.proofs.conflict.VerdictPartialEq.eq.Met as conflict_verdict_partial_eq_eq_met
 use Rattle.settling.specs.Determined.{Determined}
 use Rattle.settling.proofs.Facts.{by_clause}
 use Rattle.contracts.proofs.Rules.{one_answer}
@@ -56,4 +59,14 @@ conflict_have_conflict_determined = record {
   free = λ M 𝓤 𝓛 mem run κs a. (tt, id⊢ 𝓤 (emp 𝓤));
   one = λ M 𝓤 𝓛 mem run κs a g g' r r' left left' s s'.
       by_clause 𝓤 conflict_have_conflict.ended κs a r r' left left' (λ p q. (search one_answer, search one_answer)) s s';
+}
+
+pub conflict_verdict_partial_eq_eq_determined :
+    Determined conflict_verdict_partial_eq_eq_symbol.code conflict_verdict_partial_eq_eq_symbol.name conflict_verdict_partial_eq_eq.ended (λ M 𝓤. conflict_verdict_partial_eq_eq.clauses)
+conflict_verdict_partial_eq_eq_determined = record {
+  met = λ M. conflict_verdict_partial_eq_eq_met.met;
+  kept = refl;
+  free = λ M 𝓤 𝓛 mem run κs a. (tt, id⊢ 𝓤 (emp 𝓤));
+  one = λ M 𝓤 𝓛 mem run κs a g g' r r' left left' s s'.
+      by_clause 𝓤 conflict_verdict_partial_eq_eq.ended κs a r r' left left' (λ p q. (search one_answer, search one_answer)) s s';
 }

@@ -14,12 +14,18 @@ use Rattle.hint_list.proofs.entries.put_hint.Met as entries_put_hint_met
 use Rattle.hint_list.specs.contracts.entries.refuse as entries_refuse
 use Rattle.hint_list.proofs.entries.refuse.Symbol as entries_refuse_symbol
 use Rattle.hint_list.proofs.entries.refuse.Met as entries_refuse_met
+use Rattle.hint_list.specs.contracts.entries.refuse_for as entries_refuse_for
+use Rattle.hint_list.proofs.entries.refuse_for.Symbol as entries_refuse_for_symbol
+use Rattle.hint_list.proofs.entries.refuse_for.Met as entries_refuse_for_met
 use Rattle.hint_list.specs.contracts.entries.with_hint as entries_with_hint
 use Rattle.hint_list.proofs.entries.with_hint.Symbol as entries_with_hint_symbol
 use Rattle.hint_list.proofs.entries.with_hint.Met as entries_with_hint_met
 use Rattle.hint_list.specs.contracts.entries.with_wait as entries_with_wait
 use Rattle.hint_list.proofs.entries.with_wait.Symbol as entries_with_wait_symbol
 use Rattle.hint_list.proofs.entries.with_wait.Met as entries_with_wait_met
+use Rattle.hint_list.specs.contracts.entries.with_answer as entries_with_answer
+use Rattle.hint_list.proofs.entries.with_answer.Symbol as entries_with_answer_symbol
+use Rattle.hint_list.proofs.entries.with_answer.Met as entries_with_answer_met
 use Rattle.hint_list.specs.contracts.hint.is_placed as hint_is_placed
 use Rattle.hint_list.proofs.hint.is_placed.Symbol as hint_is_placed_symbol
 use Rattle.hint_list.proofs.hint.is_placed.Met as hint_is_placed_met
@@ -67,6 +73,16 @@ entries_refuse_determined = record {
       by_clause 𝓤 entries_refuse.ended κs a r r' left left' (λ p q. (search one_answer, search one_answer)) s s';
 }
 
+pub entries_refuse_for_determined :
+    Determined entries_refuse_for_symbol.code entries_refuse_for_symbol.name entries_refuse_for.ended (λ M 𝓤. entries_refuse_for.clauses)
+entries_refuse_for_determined = record {
+  met = λ M. entries_refuse_for_met.met;
+  kept = refl;
+  free = λ M 𝓤 𝓛 mem run κs a. (tt, id⊢ 𝓤 (emp 𝓤));
+  one = λ M 𝓤 𝓛 mem run κs a g g' r r' left left' s s'.
+      by_clause 𝓤 entries_refuse_for.ended κs a r r' left left' (λ p q. (search one_answer, search one_answer)) s s';
+}
+
 pub entries_with_hint_determined :
     Determined entries_with_hint_symbol.code entries_with_hint_symbol.name entries_with_hint.ended (λ M 𝓤. entries_with_hint.clauses)
 entries_with_hint_determined = record {
@@ -85,6 +101,16 @@ entries_with_wait_determined = record {
   free = λ M 𝓤 𝓛 mem run κs a. (tt, id⊢ 𝓤 (emp 𝓤));
   one = λ M 𝓤 𝓛 mem run κs a g g' r r' left left' s s'.
       by_clause 𝓤 entries_with_wait.ended κs a r r' left left' (λ p q. (search one_answer, search one_answer)) s s';
+}
+
+pub entries_with_answer_determined :
+    Determined entries_with_answer_symbol.code entries_with_answer_symbol.name entries_with_answer.ended (λ M 𝓤. entries_with_answer.clauses)
+entries_with_answer_determined = record {
+  met = λ M. entries_with_answer_met.met;
+  kept = refl;
+  free = λ M 𝓤 𝓛 mem run κs a. (tt, id⊢ 𝓤 (emp 𝓤));
+  one = λ M 𝓤 𝓛 mem run κs a g g' r r' left left' s s'.
+      by_clause 𝓤 entries_with_answer.ended κs a r r' left left' (λ p q. (search one_answer, search one_answer)) s s';
 }
 
 pub hint_is_placed_determined :

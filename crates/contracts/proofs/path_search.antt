@@ -2,6 +2,9 @@
 -- Assumes nothing.
 use mathlib.Core.Path.{refl}
 use base.Logic.{id⊢, emp}
+use Rattle.path_search.specs.contracts.trial.TrialPartialEq.eq as trial_trial_partial_eq_eq
+use Rattle.path_search.proofs.trial.TrialPartialEq.eq.Symbol as trial_trial_partial_eq_eq_symbol
+use Rattle.path_search.proofs.trial.TrialPartialEq.eq.Met as trial_trial_partial_eq_eq_met
 use Rattle.path_search.specs.contracts.tried.Tried.ended as tried_tried_ended
 use Rattle.path_search.proofs.tried.Tried.ended.Symbol as tried_tried_ended_symbol
 use Rattle.path_search.proofs.tried.Tried.ended.Met as tried_tried_ended_met
@@ -14,9 +17,25 @@ use Rattle.path_search.proofs.tried.link_at.Met as tried_link_at_met
 use Rattle.path_search.specs.contracts.tried.add_link as tried_add_link
 use Rattle.path_search.proofs.tried.add_link.Symbol as tried_add_link_symbol
 use Rattle.path_search.proofs.tried.add_link.Met as tried_add_link_met
+use Rattle.path_search.specs.contracts.tried.EndingPartialEq.eq as tried_ending_partial_eq_eq
+use Rattle.path_search.proofs.tried.EndingPartialEq.eq.Symbol as tried_ending_partial_eq_eq_symbol
+use Rattle.path_search.proofs.tried.EndingPartialEq.eq.Met as tried_ending_partial_eq_eq_met
+use Rattle.path_search.specs.contracts.tried.TriedPartialEq.eq as tried_tried_partial_eq_eq
+use Rattle.path_search.proofs.tried.TriedPartialEq.eq.Symbol as tried_tried_partial_eq_eq_symbol
+use Rattle.path_search.proofs.tried.TriedPartialEq.eq.Met as tried_tried_partial_eq_eq_met
 use Rattle.settling.specs.Determined.{Determined}
 use Rattle.settling.proofs.Facts.{by_clause}
 use Rattle.contracts.proofs.Rules.{one_answer}
+
+pub trial_trial_partial_eq_eq_determined :
+    Determined trial_trial_partial_eq_eq_symbol.code trial_trial_partial_eq_eq_symbol.name trial_trial_partial_eq_eq.ended (λ M 𝓤. trial_trial_partial_eq_eq.clauses)
+trial_trial_partial_eq_eq_determined = record {
+  met = λ M. trial_trial_partial_eq_eq_met.met;
+  kept = refl;
+  free = λ M 𝓤 𝓛 mem run κs a. (tt, id⊢ 𝓤 (emp 𝓤));
+  one = λ M 𝓤 𝓛 mem run κs a g g' r r' left left' s s'.
+      by_clause 𝓤 trial_trial_partial_eq_eq.ended κs a r r' left left' (λ p q. (search one_answer, search one_answer)) s s';
+}
 
 pub tried_tried_ended_determined :
     Determined tried_tried_ended_symbol.code tried_tried_ended_symbol.name tried_tried_ended.ended (λ M 𝓤. tried_tried_ended.clauses)
@@ -56,4 +75,24 @@ tried_add_link_determined = record {
   free = λ M 𝓤 𝓛 mem run κs a. (tt, id⊢ 𝓤 (emp 𝓤));
   one = λ M 𝓤 𝓛 mem run κs a g g' r r' left left' s s'.
       by_clause 𝓤 tried_add_link.ended κs a r r' left left' (λ p q. (search one_answer, search one_answer)) s s';
+}
+
+pub tried_ending_partial_eq_eq_determined :
+    Determined tried_ending_partial_eq_eq_symbol.code tried_ending_partial_eq_eq_symbol.name tried_ending_partial_eq_eq.ended (λ M 𝓤. tried_ending_partial_eq_eq.clauses)
+tried_ending_partial_eq_eq_determined = record {
+  met = λ M. tried_ending_partial_eq_eq_met.met;
+  kept = refl;
+  free = λ M 𝓤 𝓛 mem run κs a. (tt, id⊢ 𝓤 (emp 𝓤));
+  one = λ M 𝓤 𝓛 mem run κs a g g' r r' left left' s s'.
+      by_clause 𝓤 tried_ending_partial_eq_eq.ended κs a r r' left left' (λ p q. (search one_answer, search one_answer)) s s';
+}
+
+pub tried_tried_partial_eq_eq_determined :
+    Determined tried_tried_partial_eq_eq_symbol.code tried_tried_partial_eq_eq_symbol.name tried_tried_partial_eq_eq.ended (λ M 𝓤. tried_tried_partial_eq_eq.clauses)
+tried_tried_partial_eq_eq_determined = record {
+  met = λ M. tried_tried_partial_eq_eq_met.met;
+  kept = refl;
+  free = λ M 𝓤 𝓛 mem run κs a. (tt, id⊢ 𝓤 (emp 𝓤));
+  one = λ M 𝓤 𝓛 mem run κs a g g' r r' left left' s s'.
+      by_clause 𝓤 tried_tried_partial_eq_eq.ended κs a r r' left left' (λ p q. (search one_answer, search one_answer)) s s';
 }

@@ -14,6 +14,9 @@ use Rattle.plan_model.proofs.rooms.settle.Met as rooms_settle_met
 use Rattle.plan_model.specs.contracts.rooms.move_at_once as rooms_move_at_once
 use Rattle.plan_model.proofs.rooms.move_at_once.Symbol as rooms_move_at_once_symbol
 use Rattle.plan_model.proofs.rooms.move_at_once.Met as rooms_move_at_once_met
+use Rattle.plan_model.specs.contracts.rooms.PathsPartialEq.eq as rooms_paths_partial_eq_eq
+use Rattle.plan_model.proofs.rooms.PathsPartialEq.eq.Symbol as rooms_paths_partial_eq_eq_symbol
+use Rattle.plan_model.proofs.rooms.PathsPartialEq.eq.Met as rooms_paths_partial_eq_eq_met
 use Rattle.settling.specs.Determined.{Determined}
 use Rattle.settling.proofs.Facts.{by_clause}
 use Rattle.contracts.proofs.Rules.{one_answer}
@@ -56,4 +59,14 @@ rooms_move_at_once_determined = record {
   free = λ M 𝓤 𝓛 mem run κs a. (tt, id⊢ 𝓤 (emp 𝓤));
   one = λ M 𝓤 𝓛 mem run κs a g g' r r' left left' s s'.
       by_clause 𝓤 rooms_move_at_once.ended κs a r r' left left' (λ p q. (search one_answer, search one_answer)) s s';
+}
+
+pub rooms_paths_partial_eq_eq_determined :
+    Determined rooms_paths_partial_eq_eq_symbol.code rooms_paths_partial_eq_eq_symbol.name rooms_paths_partial_eq_eq.ended (λ M 𝓤. rooms_paths_partial_eq_eq.clauses)
+rooms_paths_partial_eq_eq_determined = record {
+  met = λ M. rooms_paths_partial_eq_eq_met.met;
+  kept = refl;
+  free = λ M 𝓤 𝓛 mem run κs a. (tt, id⊢ 𝓤 (emp 𝓤));
+  one = λ M 𝓤 𝓛 mem run κs a g g' r r' left left' s s'.
+      by_clause 𝓤 rooms_paths_partial_eq_eq.ended κs a r r' left left' (λ p q. (search one_answer, search one_answer)) s s';
 }

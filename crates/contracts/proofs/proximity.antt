@@ -23,6 +23,9 @@ use Rattle.proximity.proofs.detect.range_end.Met as detect_range_end_met
 use Rattle.proximity.specs.contracts.detect.detect_proximity as detect_detect_proximity
 use Rattle.proximity.proofs.detect.detect_proximity.Symbol as detect_detect_proximity_symbol
 use Rattle.proximity.proofs.detect.detect_proximity.Met as detect_detect_proximity_met
+use Rattle.proximity.specs.contracts.detect.ProximityPartialEq.eq as detect_proximity_partial_eq_eq
+use Rattle.proximity.proofs.detect.ProximityPartialEq.eq.Symbol as detect_proximity_partial_eq_eq_symbol
+use Rattle.proximity.proofs.detect.ProximityPartialEq.eq.Met as detect_proximity_partial_eq_eq_met
 use Rattle.settling.specs.Determined.{Determined}
 use Rattle.settling.proofs.Facts.{by_clause}
 use Rattle.contracts.proofs.Rules.{one_answer}
@@ -95,4 +98,14 @@ detect_detect_proximity_determined = record {
   free = λ M 𝓤 𝓛 mem run κs a. (tt, id⊢ 𝓤 (emp 𝓤));
   one = λ M 𝓤 𝓛 mem run κs a g g' r r' left left' s s'.
       by_clause 𝓤 detect_detect_proximity.ended κs a r r' left left' (λ p q. (search one_answer, search one_answer)) s s';
+}
+
+pub detect_proximity_partial_eq_eq_determined :
+    Determined detect_proximity_partial_eq_eq_symbol.code detect_proximity_partial_eq_eq_symbol.name detect_proximity_partial_eq_eq.ended (λ M 𝓤. detect_proximity_partial_eq_eq.clauses)
+detect_proximity_partial_eq_eq_determined = record {
+  met = λ M. detect_proximity_partial_eq_eq_met.met;
+  kept = refl;
+  free = λ M 𝓤 𝓛 mem run κs a. (tt, id⊢ 𝓤 (emp 𝓤));
+  one = λ M 𝓤 𝓛 mem run κs a g g' r r' left left' s s'.
+      by_clause 𝓤 detect_proximity_partial_eq_eq.ended κs a r r' left left' (λ p q. (search one_answer, search one_answer)) s s';
 }

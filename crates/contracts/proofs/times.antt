@@ -44,6 +44,30 @@ use Rattle.times.proofs.time.Duration.as_secs_f64.Met as time_duration_as_secs_f
 use Rattle.times.specs.contracts.time.Duration.from_secs_f64 as time_duration_from_secs_f64
 use Rattle.times.proofs.time.Duration.from_secs_f64.Symbol as time_duration_from_secs_f64_symbol
 use Rattle.times.proofs.time.Duration.from_secs_f64.Met as time_duration_from_secs_f64_met
+use Rattle.times.specs.contracts.time.RefusalFromStrayed.from as time_refusal_from_strayed_from
+use Rattle.times.proofs.time.RefusalFromStrayed.from.Symbol as time_refusal_from_strayed_from_symbol
+use Rattle.times.proofs.time.RefusalFromStrayed.from.Met as time_refusal_from_strayed_from_met
+use Rattle.times.specs.contracts.time.TimePointPartialEq.eq as time_time_point_partial_eq_eq
+use Rattle.times.proofs.time.TimePointPartialEq.eq.Symbol as time_time_point_partial_eq_eq_symbol
+use Rattle.times.proofs.time.TimePointPartialEq.eq.Met as time_time_point_partial_eq_eq_met
+use Rattle.times.specs.contracts.time.TimePointPartialOrd.partial_cmp as time_time_point_partial_ord_partial_cmp
+use Rattle.times.proofs.time.TimePointPartialOrd.partial_cmp.Symbol as time_time_point_partial_ord_partial_cmp_symbol
+use Rattle.times.proofs.time.TimePointPartialOrd.partial_cmp.Met as time_time_point_partial_ord_partial_cmp_met
+use Rattle.times.specs.contracts.time.TimePointOrd.cmp as time_time_point_ord_cmp
+use Rattle.times.proofs.time.TimePointOrd.cmp.Symbol as time_time_point_ord_cmp_symbol
+use Rattle.times.proofs.time.TimePointOrd.cmp.Met as time_time_point_ord_cmp_met
+use Rattle.times.specs.contracts.time.DurationPartialEq.eq as time_duration_partial_eq_eq
+use Rattle.times.proofs.time.DurationPartialEq.eq.Symbol as time_duration_partial_eq_eq_symbol
+use Rattle.times.proofs.time.DurationPartialEq.eq.Met as time_duration_partial_eq_eq_met
+use Rattle.times.specs.contracts.time.DurationPartialOrd.partial_cmp as time_duration_partial_ord_partial_cmp
+use Rattle.times.proofs.time.DurationPartialOrd.partial_cmp.Symbol as time_duration_partial_ord_partial_cmp_symbol
+use Rattle.times.proofs.time.DurationPartialOrd.partial_cmp.Met as time_duration_partial_ord_partial_cmp_met
+use Rattle.times.specs.contracts.time.DurationOrd.cmp as time_duration_ord_cmp
+use Rattle.times.proofs.time.DurationOrd.cmp.Symbol as time_duration_ord_cmp_symbol
+use Rattle.times.proofs.time.DurationOrd.cmp.Met as time_duration_ord_cmp_met
+use Rattle.times.specs.contracts.time.StrayedPartialEq.eq as time_strayed_partial_eq_eq
+use Rattle.times.proofs.time.StrayedPartialEq.eq.Symbol as time_strayed_partial_eq_eq_symbol
+use Rattle.times.proofs.time.StrayedPartialEq.eq.Met as time_strayed_partial_eq_eq_met
 use Rattle.settling.specs.Determined.{Determined}
 use Rattle.settling.proofs.Facts.{by_clause}
 use Rattle.contracts.proofs.Rules.{one_answer}
@@ -186,4 +210,84 @@ time_duration_from_secs_f64_determined = record {
   free = λ M 𝓤 𝓛 mem run κs a. (tt, id⊢ 𝓤 (emp 𝓤));
   one = λ M 𝓤 𝓛 mem run κs a g g' r r' left left' s s'.
       by_clause 𝓤 time_duration_from_secs_f64.ended κs a r r' left left' (λ p q. (search one_answer, search one_answer)) s s';
+}
+
+pub time_refusal_from_strayed_from_determined :
+    Determined time_refusal_from_strayed_from_symbol.code time_refusal_from_strayed_from_symbol.name time_refusal_from_strayed_from.ended (λ M 𝓤. time_refusal_from_strayed_from.clauses)
+time_refusal_from_strayed_from_determined = record {
+  met = λ M. time_refusal_from_strayed_from_met.met;
+  kept = refl;
+  free = λ M 𝓤 𝓛 mem run κs a. (tt, id⊢ 𝓤 (emp 𝓤));
+  one = λ M 𝓤 𝓛 mem run κs a g g' r r' left left' s s'.
+      by_clause 𝓤 time_refusal_from_strayed_from.ended κs a r r' left left' (λ p q. (search one_answer, search one_answer)) s s';
+}
+
+pub time_time_point_partial_eq_eq_determined :
+    Determined time_time_point_partial_eq_eq_symbol.code time_time_point_partial_eq_eq_symbol.name time_time_point_partial_eq_eq.ended (λ M 𝓤. time_time_point_partial_eq_eq.clauses)
+time_time_point_partial_eq_eq_determined = record {
+  met = λ M. time_time_point_partial_eq_eq_met.met;
+  kept = refl;
+  free = λ M 𝓤 𝓛 mem run κs a. (tt, id⊢ 𝓤 (emp 𝓤));
+  one = λ M 𝓤 𝓛 mem run κs a g g' r r' left left' s s'.
+      by_clause 𝓤 time_time_point_partial_eq_eq.ended κs a r r' left left' (λ p q. (search one_answer, search one_answer)) s s';
+}
+
+pub time_time_point_partial_ord_partial_cmp_determined :
+    Determined time_time_point_partial_ord_partial_cmp_symbol.code time_time_point_partial_ord_partial_cmp_symbol.name time_time_point_partial_ord_partial_cmp.ended (λ M 𝓤. time_time_point_partial_ord_partial_cmp.clauses)
+time_time_point_partial_ord_partial_cmp_determined = record {
+  met = λ M. time_time_point_partial_ord_partial_cmp_met.met;
+  kept = refl;
+  free = λ M 𝓤 𝓛 mem run κs a. (tt, id⊢ 𝓤 (emp 𝓤));
+  one = λ M 𝓤 𝓛 mem run κs a g g' r r' left left' s s'.
+      by_clause 𝓤 time_time_point_partial_ord_partial_cmp.ended κs a r r' left left' (λ p q. (search one_answer, search one_answer)) s s';
+}
+
+pub time_time_point_ord_cmp_determined :
+    Determined time_time_point_ord_cmp_symbol.code time_time_point_ord_cmp_symbol.name time_time_point_ord_cmp.ended (λ M 𝓤. time_time_point_ord_cmp.clauses)
+time_time_point_ord_cmp_determined = record {
+  met = λ M. time_time_point_ord_cmp_met.met;
+  kept = refl;
+  free = λ M 𝓤 𝓛 mem run κs a. (tt, id⊢ 𝓤 (emp 𝓤));
+  one = λ M 𝓤 𝓛 mem run κs a g g' r r' left left' s s'.
+      by_clause 𝓤 time_time_point_ord_cmp.ended κs a r r' left left' (λ p q. (search one_answer, search one_answer)) s s';
+}
+
+pub time_duration_partial_eq_eq_determined :
+    Determined time_duration_partial_eq_eq_symbol.code time_duration_partial_eq_eq_symbol.name time_duration_partial_eq_eq.ended (λ M 𝓤. time_duration_partial_eq_eq.clauses)
+time_duration_partial_eq_eq_determined = record {
+  met = λ M. time_duration_partial_eq_eq_met.met;
+  kept = refl;
+  free = λ M 𝓤 𝓛 mem run κs a. (tt, id⊢ 𝓤 (emp 𝓤));
+  one = λ M 𝓤 𝓛 mem run κs a g g' r r' left left' s s'.
+      by_clause 𝓤 time_duration_partial_eq_eq.ended κs a r r' left left' (λ p q. (search one_answer, search one_answer)) s s';
+}
+
+pub time_duration_partial_ord_partial_cmp_determined :
+    Determined time_duration_partial_ord_partial_cmp_symbol.code time_duration_partial_ord_partial_cmp_symbol.name time_duration_partial_ord_partial_cmp.ended (λ M 𝓤. time_duration_partial_ord_partial_cmp.clauses)
+time_duration_partial_ord_partial_cmp_determined = record {
+  met = λ M. time_duration_partial_ord_partial_cmp_met.met;
+  kept = refl;
+  free = λ M 𝓤 𝓛 mem run κs a. (tt, id⊢ 𝓤 (emp 𝓤));
+  one = λ M 𝓤 𝓛 mem run κs a g g' r r' left left' s s'.
+      by_clause 𝓤 time_duration_partial_ord_partial_cmp.ended κs a r r' left left' (λ p q. (search one_answer, search one_answer)) s s';
+}
+
+pub time_duration_ord_cmp_determined :
+    Determined time_duration_ord_cmp_symbol.code time_duration_ord_cmp_symbol.name time_duration_ord_cmp.ended (λ M 𝓤. time_duration_ord_cmp.clauses)
+time_duration_ord_cmp_determined = record {
+  met = λ M. time_duration_ord_cmp_met.met;
+  kept = refl;
+  free = λ M 𝓤 𝓛 mem run κs a. (tt, id⊢ 𝓤 (emp 𝓤));
+  one = λ M 𝓤 𝓛 mem run κs a g g' r r' left left' s s'.
+      by_clause 𝓤 time_duration_ord_cmp.ended κs a r r' left left' (λ p q. (search one_answer, search one_answer)) s s';
+}
+
+pub time_strayed_partial_eq_eq_determined :
+    Determined time_strayed_partial_eq_eq_symbol.code time_strayed_partial_eq_eq_symbol.name time_strayed_partial_eq_eq.ended (λ M 𝓤. time_strayed_partial_eq_eq.clauses)
+time_strayed_partial_eq_eq_determined = record {
+  met = λ M. time_strayed_partial_eq_eq_met.met;
+  kept = refl;
+  free = λ M 𝓤 𝓛 mem run κs a. (tt, id⊢ 𝓤 (emp 𝓤));
+  one = λ M 𝓤 𝓛 mem run κs a g g' r r' left left' s s'.
+      by_clause 𝓤 time_strayed_partial_eq_eq.ended κs a r r' left left' (λ p q. (search one_answer, search one_answer)) s s';
 }

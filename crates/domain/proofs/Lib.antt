@@ -1,4 +1,5 @@
 pub mod Within
 pub mod Vectors
 pub mod Distance
+pub mod Told
 pub mod Fine

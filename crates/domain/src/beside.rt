@@ -1,10 +1,9 @@
 // What is wrong with a call for paths: more than the agent and the table is examined (docs/RULES.md, 3.10, 5.1, 11.9 and 11.10).
 ghost use Rattle.std.specs.Prelude.{◌≡◌, ◌&&◌};
 ghost use Rattle.domain.specs.Domain.{is_time};
-ghost use Rattle.domain.specs.Beside.{is_budget, numbered, with_numbers, with_lent};
+ghost use Rattle.domain.specs.Beside.{is_budget, numbered_told, with_numbers_told, with_lent_told};
 
 use crate::limits;
-use refusals::Refusal;
 use times::time::TimePoint;
 
 #[tactic(auto, unfolding(crate::specs::Beside::is_budget))]
@@ -26,20 +25,20 @@ pub fn is_asked(budget: u64, arrival: TimePoint) -> bool
 }
 
 // A ground for 1: it comes after any for 2, and before 3.
-fn by_number(found: Result<(), Refusal>) -> Result<(), Refusal>
-    ensures { result ≡ numbered found }
+fn by_number(found: Result<(), u64>) -> Result<(), u64>
+    ensures { result ≡ numbered_told found }
 {
     match found {
-        Ok(()) => Err(Refusal::Number),
-        Err(Refusal::Shape) => Err(Refusal::Shape),
-        Err(_) => Err(Refusal::Number),
+        Ok(()) => Err(refusals::NUMBER),
+        Err(refusals::SHAPE) => Err(refusals::SHAPE),
+        Err(_) => Err(refusals::NUMBER),
     }
 }
 
-// What is found where numbers beside those examined must be in the table as well.
-#[tactic(auto, unfolding(crate::specs::Beside::with_numbers))]
-pub fn with_numbers(ok: bool, found: Result<(), Refusal>) -> Result<(), Refusal>
-    ensures { result ≡ with_numbers ok found }
+// What is found, told by its number, where numbers beside those examined must be in the table as well.
+#[tactic(auto, unfolding(crate::specs::Beside::with_numbers_told))]
+pub fn with_numbers(ok: bool, found: Result<(), u64>) -> Result<(), u64>
+    ensures { result ≡ with_numbers_told ok found }
 {
     if ok {
         return found;
@@ -47,13 +46,13 @@ pub fn with_numbers(ok: bool, found: Result<(), Refusal>) -> Result<(), Refusal>
     by_number(found)
 }
 
-// What is found with hints that are refused by this number.
-#[tactic(auto, unfolding(crate::specs::Beside::with_lent))]
-pub fn with_lent(number: u64, found: Result<(), Refusal>) -> Result<(), Refusal>
-    ensures { result ≡ with_lent number found }
+// What is found, told by its number, with hints that are refused by this number.
+#[tactic(auto, unfolding(crate::specs::Beside::with_lent_told))]
+pub fn with_lent(number: u64, found: Result<(), u64>) -> Result<(), u64>
+    ensures { result ≡ with_lent_told number found }
 {
-    if number == u64::from(Refusal::Shape) {
-        return Err(Refusal::Shape);
+    if number == refusals::SHAPE {
+        return Err(refusals::SHAPE);
     }
     by_number(found)
 }

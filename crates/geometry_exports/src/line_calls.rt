@@ -25,5 +25,8 @@ pub fn igelbert_stationary_proximity(
     let r = Vector { x: rx, y: ry };
     let p0 = Vector { x: px, y: py };
     let v = Vector { x: vx, y: vy };
-    proximity_words::give_stay(calls::stationary_proximity(r, p0, v, limit), out)
+    proximity_words::give_stay(
+        calls::stationary_proximity(r, p0, v, limit).map_err(u64::from),
+        out,
+    )
 }

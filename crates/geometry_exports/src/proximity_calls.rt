@@ -27,7 +27,7 @@ pub fn igelbert_position(
         out.new result }
 {
     let leg = legs::leg_of(t0, x0, y0, t1, x1, y1);
-    proximity_words::give_position(calls::position(leg, TimePoint(t)), out)
+    proximity_words::give_position(calls::position(leg, TimePoint(t)).map_err(u64::from), out)
 }
 
 // When the agent's leg, from 0 to 1, and an obstacle's, from 2 to 3, come within a squared distance and when they leave it.
@@ -52,7 +52,10 @@ pub fn igelbert_detect_proximity(
 {
     let agent = legs::leg_of(t0, x0, y0, t1, x1, y1);
     let obstacle = legs::leg_of(t2, x2, y2, t3, x3, y3);
-    proximity_words::give_proximity(calls::proximity(limit, agent, obstacle), out)
+    proximity_words::give_proximity(
+        calls::proximity(limit, agent, obstacle).map_err(u64::from),
+        out,
+    )
 }
 
 // Whether the agent's leg, from 0 to 1, and an obstacle's, from 2 to 3, are in conflict.
@@ -90,7 +93,7 @@ pub fn igelbert_have_conflict(
     };
     let obstacle = legs::leg_of(t2, x2, y2, t3, x3, y3);
     proximity_words::give_verdict(
-        conflicts::calls::conflict(p, agent, q, obstacle, limit),
+        conflicts::calls::conflict(p, agent, q, obstacle, limit).map_err(u64::from),
         out,
     )
 }

@@ -37,7 +37,7 @@ pub fn igelbert_is_safe_segment(
     let p = CircularProfile { footprint, follow };
     let agent = legs::leg_of(t0, x0, y0, t1, x1, y1);
     proximity_words::give_verdict(
-        calls::segment(p, agent, starts, numbers, times, xs, ys),
+        calls::segment(p, agent, starts, numbers, times, xs, ys).map_err(u64::from),
         out,
     )
 }

@@ -30,7 +30,7 @@ pub fn igelbert_critical_distance(
         footprint: footprint2,
         follow: follow2,
     };
-    shape_words::give_distance(calls::critical_distance(p, q), out)
+    shape_words::give_distance(calls::critical_distance(p, q).map_err(u64::from), out)
 }
 
 // That distance times itself.
@@ -52,7 +52,10 @@ pub fn igelbert_critical_distance_squared(
         footprint: footprint2,
         follow: follow2,
     };
-    shape_words::give_distance(calls::critical_distance_squared(p, q), out)
+    shape_words::give_distance(
+        calls::critical_distance_squared(p, q).map_err(u64::from),
+        out,
+    )
 }
 
 // How far one cart stays behind another.
@@ -74,7 +77,7 @@ pub fn igelbert_follow_distance(
         footprint: footprint2,
         follow: follow2,
     };
-    shape_words::give_distance(calls::follow_distance(p, q), out)
+    shape_words::give_distance(calls::follow_distance(p, q).map_err(u64::from), out)
 }
 
 // The box of a leg of the agent's.
@@ -94,7 +97,7 @@ pub fn igelbert_box_of_leg(
 {
     let p = CircularProfile { footprint, follow };
     let leg = legs::leg_of(t0, x0, y0, t1, x1, y1);
-    shape_words::give_box(calls::box_of_leg(p, leg), out)
+    shape_words::give_box(calls::box_of_leg(p, leg).map_err(u64::from), out)
 }
 
 // The box of an obstacle's waypoints.
@@ -110,7 +113,10 @@ pub fn igelbert_box_of_obstacle(
         out.old out.new result }
 {
     let p = CircularProfile { footprint, follow };
-    shape_words::give_hull(table_checks::calls::box_of_obstacle(p, times, xs, ys), out)
+    shape_words::give_hull(
+        table_checks::calls::box_of_obstacle(p, times, xs, ys).map_err(u64::from),
+        out,
+    )
 }
 
 // Whether two boxes overlap.
@@ -143,5 +149,5 @@ pub fn igelbert_boxes_overlap(
         right: right2,
         top: top2,
     };
-    shape_words::give_overlap(calls::boxes_overlap(p, q), out)
+    shape_words::give_overlap(calls::boxes_overlap(p, q).map_err(u64::from), out)
 }

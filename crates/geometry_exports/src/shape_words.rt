@@ -2,23 +2,23 @@
 ghost use Rattle.lent.specs.Outcome.{Handed};
 ghost use Rattle.domain.specs.Asked.{distance_outcome, box_outcome, overlap_outcome};
 ghost use Rattle.table_checks.specs.Asked.{hull_outcome};
+ghost use Rattle.geometry_exports.specs.Numbered.{numbered_outcome};
 
 use lent::words;
 use number_words::word;
-use refusals::Refusal;
 use shapes::bounding_box::BoundingBox;
 
-pub fn give_distance(d: Result<f64, Refusal>, out: &mut [u64]) -> u64
-    ensures { Handed (distance_outcome d) out.old out.new result }
+pub fn give_distance(d: Result<f64, u64>, out: &mut [u64]) -> u64
+    ensures { Handed (numbered_outcome distance_outcome d) out.old out.new result }
 {
     match d {
         Ok(x) => words::hand_over(out, &[word::of_double(x)]),
-        Err(why) => words::refuse(out, u64::from(why)),
+        Err(number) => words::refuse(out, number),
     }
 }
 
-pub fn give_box(b: Result<BoundingBox, Refusal>, out: &mut [u64]) -> u64
-    ensures { Handed (box_outcome b) out.old out.new result }
+pub fn give_box(b: Result<BoundingBox, u64>, out: &mut [u64]) -> u64
+    ensures { Handed (numbered_outcome box_outcome b) out.old out.new result }
 {
     match b {
         Ok(at) => {
@@ -30,12 +30,12 @@ pub fn give_box(b: Result<BoundingBox, Refusal>, out: &mut [u64]) -> u64
             ];
             words::hand_over(out, &w)
         }
-        Err(why) => words::refuse(out, u64::from(why)),
+        Err(number) => words::refuse(out, number),
     }
 }
 
-pub fn give_hull(h: Result<Option<BoundingBox>, Refusal>, out: &mut [u64]) -> u64
-    ensures { Handed (hull_outcome h) out.old out.new result }
+pub fn give_hull(h: Result<Option<BoundingBox>, u64>, out: &mut [u64]) -> u64
+    ensures { Handed (numbered_outcome hull_outcome h) out.old out.new result }
 {
     match h {
         Ok(Some(at)) => {
@@ -49,15 +49,15 @@ pub fn give_hull(h: Result<Option<BoundingBox>, Refusal>, out: &mut [u64]) -> u6
             words::hand_over(out, &w)
         }
         Ok(None) => words::hand_over(out, &[0]),
-        Err(why) => words::refuse(out, u64::from(why)),
+        Err(number) => words::refuse(out, number),
     }
 }
 
-pub fn give_overlap(o: Result<bool, Refusal>, out: &mut [u64]) -> u64
-    ensures { Handed (overlap_outcome o) out.old out.new result }
+pub fn give_overlap(o: Result<bool, u64>, out: &mut [u64]) -> u64
+    ensures { Handed (numbered_outcome overlap_outcome o) out.old out.new result }
 {
     match o {
         Ok(together) => words::hand_over(out, &[u64::from(together)]),
-        Err(why) => words::refuse(out, u64::from(why)),
+        Err(number) => words::refuse(out, number),
     }
 }

@@ -70,6 +70,7 @@ worked =
             until_gone_ranked = refl;
             to_the_end = refl;
             too_many = refl;
+            too_many_number = refl;
           };
       standing =
           record {

@@ -4,6 +4,7 @@
 use Rattle.std.specs.Prelude.{ℕ, ◌+◌, ◌*◌, [], ◌∷◌, pos, ◌-ℤ◌, Float}
 use Rattle.std.specs.Float.Ieee
 use Rattle.std.specs.Float.{binary64}
+use Rattle.refusals.specs.Names.{refusal_number}
 use Rattle.floats.specs.Constants.{nought}
 use Rattle.times.specs.declared.time.Duration.{Duration}
 use Rattle.times.specs.declared.time.TimePoint.{TimePoint}
@@ -11,7 +12,7 @@ use Rattle.shapes.specs.Box.{box_of_leg}
 use Rattle.shapes.specs.declared.profile.CircularProfile.{CircularProfile}
 use Rattle.shapes.specs.declared.waypoint.Leg.{Leg}
 use Rattle.shapes.specs.declared.waypoint.Waypoint.{Waypoint}
-use Rattle.hint_list.specs.Hints.{Hints}
+use Rattle.hint_list.specs.Hints.{Hints, Of, Refused}
 use Rattle.hint_list.specs.declared.hint.WaitHint.{WaitHint}
 use Rattle.hint_list.specs.declared.hint.RankedHint.{RankedHint}
 use Rattle.hint_ranking.specs.Hints.{Ranked}
@@ -76,6 +77,11 @@ table p w v =
 -- What the walk of rule 10.3 finds for an agent on its leg and a cart of its kind that goes from one waypoint to another,
 abbrev pub walked : CircularProfile → Leg → Waypoint → Waypoint → Hints
 walked p leg w v = hints_of p leg (box_of_leg p.footprint leg) (obstacles_of (table p w v))
+
+-- the number that it is refused by, 0 where it is not (RULES, section 4),
+abbrev pub walk_number : Hints → ℕ
+walk_number (Of hints) = 0
+walk_number (Refused why) = refusal_number why
 
 -- and what the call for hints answers.
 abbrev pub asked : CircularProfile → Leg → Waypoint → Waypoint → Ranked

@@ -7,7 +7,7 @@ use Rattle.floats.specs.Constants.{nought}
 use Rattle.hint_list.specs.Hints.{Of, Refused}
 use Rattle.hint_ranking.specs.Hints as R
 use Rattle.hint_examples.specs.Floor.{metres, metres_back, eighths, lasting, early, small, middling, large, on, agent}
-use Rattle.hint_examples.specs.Floor.{walked, asked, hint, ranked_at}
+use Rattle.hint_examples.specs.Floor.{walked, walk_number, asked, hint, ranked_at}
 
 -- In the working v is the agent's speed of 1, w the cart's along the way (aligned), u the agent's direction (1, 0). Nothing on the
 -- agent's own line goes across it, so that a of rule 10.31 is 0 and there is no crossing hint.
@@ -66,6 +66,7 @@ pub record Chases : Type 0 where
   -- A chase of more hints than are kept: round n ends at s = 4 n + 2, t = 8 n + 2. After 64 of them the agent is at 258 m of 1,000 at
   -- 514 s of 1,000, and the 65th is refused 10 (10.43).
   pub too_many : walked small (agent 1_000 0) (on (metres 4) nought 0) (on (metres 504) nought 1_000) ≡ Refused Refusals.Full
+  pub too_many_number : walk_number (walked small (agent 1_000 0) (on (metres 4) nought 0) (on (metres 504) nought 1_000)) ≡ 10
 
 -- Standing (RULES 10.24 to 10.27).
 pub record Standing : Type 0 where

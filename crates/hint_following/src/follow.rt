@@ -25,7 +25,7 @@ fn with_stop(
     ensures { Added (stop_hint n place t obstacle) n hints.old hints.new result }
 {
     let Ok(until) = TimePoint::from_secs_f64(t) else {
-        return entries::refuse(hints, Refusal::Strayed, n);
+        return entries::refuse_for(hints, Refusal::Strayed, n);
     };
     let hint = WaitHint {
         place,
@@ -79,7 +79,7 @@ pub fn follow(
     ensures { Added (follow_hints agent leg gaps aligned obstacle n) n hints.old hints.new result }
 {
     let Ok((apart, t)) = chase::first_seen(agent, leg) else {
-        return entries::refuse(hints, Refusal::Strayed, n);
+        return entries::refuse_for(hints, Refusal::Strayed, n);
     };
     if !is_followed(agent, gaps, apart) {
         return Ok(n);

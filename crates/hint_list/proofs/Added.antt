@@ -5,14 +5,16 @@ use mathlib.Core.Path.{◌≡◌, refl, sym, ap, ◌∙◌}
 use mathlib.Core.List.{List, [], ◌∷◌, ◌++◌, map, map-append}
 use native.Mathlib.Nat.{add-zero}
 use native.Mathlib.Omega.{arith}
-use lib.ListN.{length, length-append, length-map}
+use lib.ListN.{length, length-append, length-map, length-replicate}
 use Rattle.hint_list.specs.Hints.{Hints, Of, Refused, found_first, found_then}
 use Rattle.hint_list.specs.Words.{unranked, laid}
 use Rattle.hint_list.specs.Adding.{Added, AllKept, KeptBy, filled_of, laid_by}
 use Rattle.hint_list.specs.declared.hint.WaitHint.{WaitHint}
-use Rattle.hint_list.proofs.Words.{laid_append}
+use Rattle.hint_list.proofs.Words.{laid_long, laid_append}
+use Rattle.hint_list.specs.Numbered.{AddedNumbered, numbered_hints}
 use Rattle.std.specs.Prelude.{Result, Ok, Err}
 use Rattle.refusals.specs.declared.Refusal.{Refusal}
+use Rattle.refusals.specs.Names.{refusal_number}
 
 -- Nothing is added.
 pub added_none : (n : ℕ) (words : List ℕ) → Added (Of []) n words words (Ok n)
@@ -69,6 +71,15 @@ unfolding filled_of laid_by found_then
 added_ended n why (Of hs) go a = absurd (omega (arith, ap is_refusal a.filled))
 added_ended n why (Refused k) go a = record { filled = a.filled; words = a.words; kept = tt }
 
+-- ---- What is left.
+
+-- A list of 385 words keeps its length.
+pub added_long : (answer : Hints) (n : ℕ) {lent left : List ℕ} {r : Result ℕ Refusal} →
+    Added answer n lent left r → length lent ≡ 385 → length left ≡ 385
+unfolding laid_by
+added_long (Of hs) n {lent} a long = ap length a.words ∙ laid_long lent n (map unranked hs) ∙ long
+added_long (Refused why) n a long = ap length a.words ∙ length-replicate {A = ℕ} 385 0
+
 -- ---- What is handed back.
 
 -- What was handed back says whether there are hints.
@@ -83,3 +94,15 @@ pub answer_refused : (answer : Hints) (n : ℕ) (why : Refusal) {lent left : Lis
 unfolding filled_of
 answer_refused (Of hs) n why a = absurd (omega (arith, ap is_refusal a.filled))
 answer_refused (Refused k) n why a = cc a.filled
+
+-- ---- Refusals by their numbers.
+
+abbrev pub told_number : Result ℕ Refusal → Result ℕ ℕ
+told_number (Ok n) = Ok n
+told_number (Err why) = Err (refusal_number why)
+
+pub added_numbered : (answer : Hints) (n : ℕ) {lent left : List ℕ} {r : Result ℕ Refusal} →
+    Added answer n lent left r → AddedNumbered (numbered_hints answer) n lent left (told_number r)
+unfolding filled_of laid_by numbered_hints
+added_numbered (Of hs) n a = record { filled = ap told_number a.filled; words = a.words; kept = a.kept }
+added_numbered (Refused why) n a = record { filled = ap told_number a.filled; words = a.words; kept = tt }

@@ -14,11 +14,16 @@ use Rattle.hint_list.specs.Words.{count_in, hints_in, all_words, laid}
 use Rattle.hint_list.specs.declared.hint.RankedHint.{RankedHint}
 use Rattle.hint_list.proofs.Reading.{few, first_hints}
 use Rattle.hint_list.proofs.Words.{KeptRanked, AllRankedKept, laid_count, laid_append, laid_again, laid_words, laid_read}
-use Rattle.hint_ranking.specs.Ranked.{inserted}
+use Rattle.hint_ranking.specs.Ranked.{inserted, ranked}
 use Rattle.hint_ranking.specs.Hints.{Of, ranked_words, rank_of, ranked_into}
 use Rattle.hint_ranking.proofs.Those.{permuted_length}
 use Rattle.hint_ranking.proofs.Inserted.{by_place, inserted_permuted}
+use Rattle.hint_ranking.proofs.Theorems.{ranked_permuted}
 use Rattle.hint_ranking.proofs.Places.{place_at_most}
+
+-- Ranking keeps the count of hints, and one that is inserted is one more.
+pub length_ranked : (l : List RankedHint) → length (ranked l) ≡ length l
+length_ranked l = permuted_length (ranked l) l (ranked_permuted l)
 
 pub length_inserted : (h : RankedHint) (l : List RankedHint) → length (inserted h l) ≡ length l + 1
 length_inserted h l = permuted_length (inserted h l) (h ∷ l) (inserted_permuted h l) ∙ omega arith

@@ -4,7 +4,7 @@ use mathlib.Core.Path.{◌≡◌, refl, sym, ap, ◌∙◌}
 use mathlib.Core.Logic.{inl}
 use mathlib.Core.Bool.{Bool, true, false, cond}
 use mathlib.Core.List.{List, [], ◌∷◌}
-use Prim.Native.Nat.{ℕ, suc, ◌+◌, ◌≤◌, ◌<◌}
+use Prim.Native.Nat.{ℕ, suc, ◌+◌, ◌-◌, ◌≤◌, ◌<◌}
 use native.Mathlib.Numerals.{add-one}
 use native.Mathlib.Omega.{arith}
 use lib.ListN.{length, take, drop, get_or, length-drop, drop_of_length-le}
@@ -63,8 +63,22 @@ pub gap_last : (words : List ℕ) (l : List RankedHint) (n : ℕ) → length l �
 unfolding laid
 gap_last words l n end x = rw (drop_of_length-le l {i = n} end)
 
--- The hint in front of the gap is as it was,
-gap_front : (words : List ℕ) (n k : ℕ) (moved : List ℕ) → n ≤ count_in words → k < n →
+-- Where hint j - 1 moves up, its own place is free.
+pub gap_moves : (words : List ℕ) (l : List RankedHint) (j : ℕ) (moved : List ℕ) (d : RankedHint) → 0 < j → j ≤ length l →
+    HasGap words l j moved → HasGap words l (j - 1) (put_in moved j (get_or l (j - 1) d))
+unfolding laid
+gap_moves words l j moved d some few gap x =
+    let y = get_or l (j - 1) d in
+    let on : j ≡ suc (j - 1) = omega arith in
+    let up : j - 1 + 1 ≡ j = omega arith in
+    let rest : drop (j - 1) l ≡ y ∷ drop j l = drop_more l (j - 1) d (omega arith) ∙ ap (λ (k : ℕ). y ∷ drop k l) up in
+    ap (λ (m : List ℕ). put_in m (j - 1) x) (gap y) ∙
+    put_laid words j (y ∷ drop j l) (j - 1) x (omega arith) ∙
+    ap (λ (k : ℕ). laid (put_in words (j - 1) x) k (y ∷ drop j l)) on ∙
+    ap (λ (r : List RankedHint). laid words (j - 1) (x ∷ r)) (sym rest)
+
+-- Of the first n hints in the words, the one in front of the gap is as it was,
+pub gap_front : (words : List ℕ) (n k : ℕ) (moved : List ℕ) → n ≤ count_in words → k < n →
     HasGap words (take n (hints_in words)) (k + 1) moved →
     get_or (hints_in moved) k blank_ranked ≡ get_or (take n (hints_in words)) k blank_ranked
 unfolding laid
@@ -80,11 +94,11 @@ gap_front words n k moved there few gap =
     sym (get_or-take n (hints_in words) k blank_ranked (omega arith))
 
 -- and where it moves up, its own place is free.
-pub gap_moves : (words : List ℕ) (n k j : ℕ) (moved : List ℕ) → n ≤ count_in words → k < n → j ≡ k + 1 →
+pub gap_climbs : (words : List ℕ) (n k j : ℕ) (moved : List ℕ) → n ≤ count_in words → k < n → j ≡ k + 1 →
     HasGap words (take n (hints_in words)) j moved →
     HasGap words (take n (hints_in words)) k (put_in moved (k + 1) (get_or (hints_in moved) k blank_ranked))
 unfolding laid
-gap_moves words n k j moved there few on at x =
+gap_climbs words n k j moved there few on at x =
     let l = take n (hints_in words) in
     let y = get_or l k blank_ranked in
     let gap : HasGap words l (k + 1) moved = rw on at at in

@@ -98,7 +98,7 @@ pub fn rounds(
                 t1 = t2;
             }
             Ok(Round::Last(hint)) => return entries::with_hint(hints, m, hint),
-            Err(_) => return entries::refuse(hints, Refusal::Strayed, m),
+            Err(_) => return entries::refuse_for(hints, Refusal::Strayed, m),
         }
     }
 }

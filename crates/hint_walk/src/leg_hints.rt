@@ -12,7 +12,7 @@ use hint_waits::{crossing, oncoming, standing};
 use refusals::Refusal;
 
 // What follows the crossing hint: the leg comes on, outpaces the agent, is followed, or stands.
-#[derive(Clone, Copy, Debug, PartialEq, Eq)]
+#[derive(Clone, Copy, PartialEq, Eq)]
 pub enum Part {
     Oncoming,
     Outpacing,
@@ -57,13 +57,13 @@ fn with_part(
     match part_of(agent, leg, aligned) {
         Part::Oncoming => {
             let wait = oncoming::oncoming_wait(agent, leg, gaps.squared);
-            entries::with_wait(hints, n, wait, obstacle)
+            entries::with_answer(hints, n, wait, obstacle)
         }
         Part::Outpacing => Ok(n),
         Part::Following => follow::follow(agent, leg, gaps, aligned, obstacle, hints, n),
         Part::Standing => {
             let wait = standing::standing_wait(agent, leg, gaps.squared);
-            entries::with_wait(hints, n, wait, obstacle)
+            entries::with_answer(hints, n, wait, obstacle)
         }
     }
 }
@@ -81,6 +81,6 @@ pub fn with_leg(
     ensures { Added (leg_hints agent leg gaps obstacle n) n hints.old hints.new result }
 {
     let wait = crossing::crossing_wait(agent, leg, gaps.squared);
-    let m = entries::with_wait(hints, n, wait, obstacle)?;
+    let m = entries::with_answer(hints, n, wait, obstacle)?;
     with_part(agent, leg, gaps, obstacle, hints, m)
 }

@@ -64,7 +64,7 @@ fn near_leg(
         return Ok(n);
     }
     let Ok(run) = course::run_of(leg) else {
-        return entries::refuse(hints, Refusal::Strayed, n);
+        return entries::refuse_for(hints, Refusal::Strayed, n);
     };
     leg_hints::with_leg(agent, run, other.gaps, other.number, hints, n)
 }
@@ -127,7 +127,7 @@ pub fn compute_wait_hints(
         hints.new result }
 {
     match course::course_of(agent) {
-        Err(why) => entries::refuse(hints, why, 0),
+        Err(why) => entries::refuse_for(hints, why, 0),
         Ok(None) => Ok(0),
         Ok(Some(way)) => with_obstacles(way, p, bounds, marks, places, hints),
     }

@@ -13,11 +13,11 @@ use Rattle.texts.specs.Reading.{is_digit, numeral_read, read_from, count_of}
 use Rattle.hold_lines.specs.Text.{Held, lines_in, without_empty_end, pieces_at, line_in, number_up_to, is_decimal, hold_in}
 use Rattle.hold_figures.specs.Crews.{holds_of, total_of, largest_of, mean_of, remainder_of, is_signed64}
 use Rattle.hold_report.specs.Report.{crew_line}
-use Rattle.hold_year.specs.Year.{Taken, year_from, year_in}
+use Rattle.hold_year.specs.Year.{Taken, year_from, year_in, year_answer, year_reply}
 use Rattle.hold_claims.specs.Claims.{RowClaims, YearClaims, Examples, Claims}
 use Rattle.hold_claims.proofs.Changed.{others_same}
 use Rattle.hold_claims.proofs.Decided.{decided}
-use Rattle.hold_claims.proofs.Exactly.{refused_14, refused_15}
+use Rattle.hold_claims.proofs.Exactly.{refused_14, told_14, refused_15, told_15}
 use Rattle.hold_claims.proofs.Fits.{taken_fits, largest_fits}
 use Rattle.hold_claims.proofs.Largest.{largest_among, all_under}
 use Rattle.hold_claims.proofs.Means.{mean_times, remainder_below, mean_back, remainder_back}
@@ -60,16 +60,25 @@ of_a_year text hs taken =
     }
 
 examples : Examples
-unfolding year_in year_from lines_in without_empty_end pieces_at bytes_of line_in number_up_to is_decimal hold_in is_digit numeral_read read_from
-    count_of every holds_of total_of is_signed64
-examples = record { a_year = refl; a_bad_line = refl; a_total_too_low = refl }
+unfolding year_reply year_answer year_in year_from lines_in without_empty_end pieces_at bytes_of line_in number_up_to is_decimal hold_in
+    is_digit numeral_read read_from count_of every holds_of total_of is_signed64
+examples =
+    record {
+      a_year = refl;
+      a_bad_line = refl;
+      a_bad_line_number = refl;
+      a_total_too_low = refl;
+      a_total_too_low_number = refl;
+    }
 
 pub claims : Claims
 claims =
     record {
       decided = decided;
       refused_14 = refused_14;
+      told_14 = told_14;
       refused_15 = refused_15;
+      told_15 = told_15;
       of_a_year = of_a_year;
       of_a_crew = of_a_crew;
       examples = examples;

@@ -12,6 +12,7 @@ use lib.ListN.{length, length-append}
 use Rattle.hold_lines.specs.Text.{Held, lines_in, line_in}
 use Rattle.hold_year.specs.Year.{Taken, year_from, year_in}
 use Rattle.hold_claims.specs.Claims.{SayThese, NoMore, And, RefusedAt, TooMany, Malformed, Decided, AllTaken, ByLine, ByTotal}
+use Rattle.hold_claims.proofs.Exactly.{told_as}
 use Rattle.hold_claims.proofs.Walk.{fits_with, in_turn, too_many, malformed, overflows, one_more}
 
 say_more : (lines : List (List ℕ)) (hs : List Held) (line : List ℕ) (h : Held) → line_in line ≡ Some h → SayThese lines hs →
@@ -79,19 +80,22 @@ from_here text done (line ∷ rest) hs r =
     summed room h says true fits go = go h (reached_more text done rest hs line h r room says fits)
     summed room h says false fits go =
         let below : length done < 100_000 = omega (arith, say_length done hs r.says, ltb-true (length hs) 100_000 room) in
-        ByTotal here (record { in_number = below; held = h; says = says; leaves = fits })
-        (decides ∙ overflows hs line rest h room says fits)
+        let refused = decides ∙ overflows hs line rest h room says fits in
+        ByTotal here (record { in_number = below; held = h; says = says; leaves = fits }) refused (told_as text refused)
 
     said : ltb (length hs) 100_000 ≡ true → (o : Option Held) → line_in line ≡ o → later → Decided text
     said room (Some h) says go = summed room h says (fits_with hs h) refl go
-    said room None says go = ByLine here (Malformed says) (decides ∙ malformed hs line rest room says)
+    said room None says go =
+        let refused = decides ∙ malformed hs line rest room says in
+        ByLine here (Malformed says) refused (told_as text refused)
 
     counted : (b : Bool) → ltb (length hs) 100_000 ≡ b → later → Decided text
     counted true room go = said room (line_in line) refl go
     counted false full go =
         let all : length done ≡ 100_000 =
         omega (arith, say_length done hs r.says, ltb-false (length hs) 100_000 full, r.in_number) in
-        ByLine here (TooMany all) (decides ∙ too_many hs line rest full)
+        let refused = decides ∙ too_many hs line rest full in
+        ByLine here (TooMany all) refused (told_as text refused)
 
 pub decided : (text : List ℕ) → Decided text
 unfolding year_from

@@ -9,9 +9,12 @@ use native.Mathlib.Omega.{arith}
 use borrow.Author.Tests.{lt-ltb, le-ltb}
 use lib.Dec.{ltb}
 use lib.ListN.{length, length-append}
+use Rattle.refusals.specs.Names.{refusal_number}
+use Rattle.refusals.specs.declared.Refusal.{Refusal}
 use Rattle.refusals.specs.declared.Refusal.TheVariants as Refusals
+use Rattle.lent.specs.Outcome.{Refuses}
 use Rattle.hold_lines.specs.Text.{Held, line_in}
-use Rattle.hold_year.specs.Year.{Year, Taken, Refused, from_line, with_total, year_from, year_in}
+use Rattle.hold_year.specs.Year.{Year, Taken, Refused, from_line, with_total, year_from, year_in, year_answer, year_reply}
 use Rattle.hold_claims.specs.Claims.{RefusedAt, BadLine, TooMany, Malformed, Overflows}
 use Rattle.hold_claims.proofs.Walk.{OfTaken, fits_with, in_turn, too_many, malformed, overflows}
 
@@ -46,6 +49,11 @@ taken_count hs (line ∷ lines) = read (ltb (length hs) 100_000) (line_in line) 
     read true None rest = tt
     read false said rest = tt
 
+-- A refusal is answered by its number.
+pub told_as : (text : List ℕ) {why : Refusal} → year_in text ≡ Refused why → year_reply text ≡ Refuses (refusal_number why)
+unfolding year_reply year_answer
+told_as text e = rw e
+
 -- As many were read as lines stand before the one that decides, and that one decides.
 module _ (text : List ℕ) (r : RefusedAt text) where
   read_count : length r.read ≡ length r.before
@@ -65,7 +73,13 @@ module _ (text : List ℕ) (r : RefusedAt text) where
       by true room = malformed r.read r.line r.behind room says
       by false full = too_many r.read r.line r.behind full
 
+  pub told_14 : BadLine text r → year_reply text ≡ Refuses 14
+  told_14 bad = told_as text (refused_14 bad)
+
   pub refused_15 : Overflows text r → year_in text ≡ Refused Refusals.Overflow
   refused_15 o =
       let room = lt-ltb (length r.read) 100_000 (omega (arith, read_count, o.in_number)) in
       line_decides ∙ overflows r.read r.line r.behind o.held room o.says o.leaves
+
+  pub told_15 : Overflows text r → year_reply text ≡ Refuses 15
+  told_15 o = told_as text (refused_15 o)

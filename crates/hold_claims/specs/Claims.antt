@@ -6,13 +6,14 @@ use Rattle.std.specs.Prelude.{None, Some}
 use Rattle.std.specs.Int.Signed.{lt_z}
 use Rattle.refusals.specs.declared.Refusal.TheVariants as Refusals
 use Rattle.lent.specs.Listed.{listed}
+use Rattle.lent.specs.Outcome.{Refuses}
 use Rattle.texts.specs.Letters.{bytes_of}
 use Rattle.texts.specs.Numerals.{decimal_of, signed_text}
 use Rattle.reply_lines.specs.Lines.{line}
 use Rattle.hold_lines.specs.Text.{Held, lines_in, line_in}
 use Rattle.hold_figures.specs.Crews.{holds_of, total_of, largest_of, mean_of, remainder_of, is_signed64}
 use Rattle.hold_report.specs.Report.{crew_line}
-use Rattle.hold_year.specs.Year.{Taken, Refused, year_from, year_in}
+use Rattle.hold_year.specs.Year.{Taken, Refused, year_from, year_in, year_reply}
 
 -- The holds of all lines, whosever they are.
 unfoldable pub all_holds : List Held → List ℤ
@@ -59,11 +60,13 @@ pub record Overflows (text : List ℕ) (r : RefusedAt text) : Type 0 where
   pub leaves : is_signed64 (total_of (holds_of held.crew (r.read ++ (held ∷ [])))) ≡ false
 
 -- A text is taken whole, or refused at its first line that is bad, or with which a total leaves 64 bits; of one line the first
--- of the two decides (RULES 21.5, 21.6).
+-- of the two decides (RULES 21.5, 21.6). What is answered then is its number alone, 14 or 15 (RULES 4.16, 4.17).
 pub data Decided (text : List ℕ) : Type 0 where
   AllTaken : (hs : List Held) → year_in text ≡ Taken hs → length hs ≤ 100_000 → SayThese (lines_in text) hs → Decided text
-  ByLine : (r : RefusedAt text) → BadLine text r → year_in text ≡ Refused Refusals.Line → Decided text
-  ByTotal : (r : RefusedAt text) → Overflows text r → year_in text ≡ Refused Refusals.Overflow → Decided text
+  ByLine : (r : RefusedAt text) → BadLine text r → year_in text ≡ Refused Refusals.Line → year_reply text ≡ Refuses 14 →
+      Decided text
+  ByTotal : (r : RefusedAt text) → Overflows text r → year_in text ≡ Refused Refusals.Overflow → year_reply text ≡ Refuses 15 →
+      Decided text
 
 -- What holds of a crew with rounds: z is its first hold, zs are those that follow.
 pub record RowClaims (z : ℤ) (zs : List ℤ) : Type 0 where
@@ -103,20 +106,31 @@ pub record YearClaims (hs : List Held) : Type 0 where
       ((32 ∷ signed_text (largest_of z zs)) ++
       ((32 ∷ signed_text (mean_of total rounds)) ++ (32 ∷ decimal_of (remainder_of total rounds)))))))
 
+-- A text whose second line is of no crew, and one whose second total is too low.
+abbrev no_crew : List ℕ
+no_crew = bytes_of "0 1 5\n64 0 -7\n"
+
+abbrev too_low : List ℕ
+too_low = bytes_of "0 1 -9223372036854775808\n0 0 -1\n\n"
+
 -- A year of three lines, and two texts that are refused: there are such.
 pub record Examples : Type 0 where
   pub a_year :
       year_in (bytes_of "0 1 5\n63 0 -7\n0 4294967295 -8") ≡
       Taken
       (record { crew = 0; hold = pos 5 } ∷ record { crew = 63; hold = negsuc 6 } ∷ record { crew = 0; hold = negsuc 7 } ∷ [])
-  pub a_bad_line : year_in (bytes_of "0 1 5\n64 0 -7\n") ≡ Refused Refusals.Line
-  pub a_total_too_low : year_in (bytes_of "0 1 -9223372036854775808\n0 0 -1\n\n") ≡ Refused Refusals.Overflow
+  pub a_bad_line : year_in no_crew ≡ Refused Refusals.Line
+  pub a_bad_line_number : year_reply no_crew ≡ Refuses 14
+  pub a_total_too_low : year_in too_low ≡ Refused Refusals.Overflow
+  pub a_total_too_low_number : year_reply too_low ≡ Refuses 15
 
 pub record Claims : Type 0 where
   pub decided : (text : List ℕ) → Decided text
-  -- And whichever line of a text is so, all before it taken, the text is refused by it.
+  -- And whichever line of a text is so, all before it taken, the text is refused by it, and its number is answered.
   pub refused_14 : (text : List ℕ) (r : RefusedAt text) → BadLine text r → year_in text ≡ Refused Refusals.Line
+  pub told_14 : (text : List ℕ) (r : RefusedAt text) → BadLine text r → year_reply text ≡ Refuses 14
   pub refused_15 : (text : List ℕ) (r : RefusedAt text) → Overflows text r → year_in text ≡ Refused Refusals.Overflow
+  pub told_15 : (text : List ℕ) (r : RefusedAt text) → Overflows text r → year_reply text ≡ Refuses 15
   pub of_a_year : (text : List ℕ) (hs : List Held) → year_in text ≡ Taken hs → YearClaims hs
   pub of_a_crew : (z : ℤ) (zs : List ℤ) → RowClaims z zs
   pub examples : Examples

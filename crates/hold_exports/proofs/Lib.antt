@@ -1,3 +1,4 @@
+mod Words
 pub mod Places
 pub mod Calls
 pub mod Turns

@@ -1,4 +1,5 @@
 mod Digits
+mod Else
 mod Numbers
 pub mod Line
 pub mod Examples

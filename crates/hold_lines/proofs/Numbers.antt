@@ -15,10 +15,14 @@ use Rattle.hold_lines.specs.Text.{is_decimal, number_up_to}
 use Rattle.hold_lines.specs.Place.{first_digit, next_digit}
 use Rattle.hold_lines.proofs.Digits.{digit_bounds}
 
+-- Goes on with what the digits make.
+abbrev pub after_digits : Option ℕ → (ℕ → Option ℕ) → Option ℕ
+after_digits digits go = option_and_then go digits
+
 -- The number that bytes make behind digits that made n, where each of them may stand.
 unfoldable pub number_on : ℕ → ℕ → List ℕ → Option ℕ
 number_on most n [] = Some n
-number_on most n (b ∷ bs) = option_and_then (λ m. number_on most m bs) (next_digit most n b)
+number_on most n (b ∷ bs) = after_digits (next_digit most n b) (λ m. number_on most m bs)
 
 digit_count : (b : ℕ) → is_digit b ≡ true → count_of b ≡ b - 48
 unfolding count_of
@@ -59,11 +63,11 @@ first_count b e = omega (arith, digit_count b e)
 
 -- A number begins with a digit and goes on with each that may follow.
 pub number_begins : (most b : ℕ) (ds : List ℕ) → 9 ≤ most →
-    number_up_to most (b ∷ ds) ≡ option_and_then (λ n. number_on most n ds) (first_digit b)
+    number_up_to most (b ∷ ds) ≡ after_digits (first_digit b) (λ n. number_on most n ds)
 unfolding number_up_to is_decimal numeral_read read_from first_digit next_digit number_on every
 number_begins most b [] large = by (is_digit b) refl
   where
-    by : (t : Bool) → is_digit b ≡ t → number_up_to most (b ∷ []) ≡ option_and_then (λ n. number_on most n []) (first_digit b)
+    by : (t : Bool) → is_digit b ≡ t → number_up_to most (b ∷ []) ≡ after_digits (first_digit b) (λ n. number_on most n [])
     by false e = rw e
     by true e =
         let small : b - 48 ≤ most = omega (arith, (digit_bounds b e).1) in
@@ -74,7 +78,7 @@ number_begins most b (c ∷ cs) large = by (is_digit b) refl (eqb b 48) refl
     ds = c ∷ cs
 
     by : (t : Bool) → is_digit b ≡ t → (u : Bool) → eqb b 48 ≡ u →
-        number_up_to most (b ∷ ds) ≡ option_and_then (λ n. number_on most n ds) (first_digit b)
+        number_up_to most (b ∷ ds) ≡ after_digits (first_digit b) (λ n. number_on most n ds)
     by false e true f = rw (e, f)
     by false e false f = rw (e, f)
     by true e true f = let none_left : b - 48 ≡ 0 = omega (arith, eqb-true b 48 f) in rw (e, f, none_left)

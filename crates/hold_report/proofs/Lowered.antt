@@ -14,7 +14,13 @@ pub lowered_above : (w : ℕ) → 2 ^ 63 ≤ w → lowered_of w ≡ pos (w - 2 ^
 unfolding lowered_of
 lowered_above w h = rw (le-ltb w (2 ^ 63) h)
 
--- The number itself.
+-- The number itself, below zero and above it, and of either sign.
+pub word_below : (w : ℕ) → w < 2 ^ 63 → word_of (lowered_of w) ≡ w + 9223372036854775808
+word_below w h = rw (lowered_below w h) (omega arith)
+
+pub word_above : (w : ℕ) → 2 ^ 63 ≤ w → word_of (lowered_of w) ≡ w - 9223372036854775808
+word_above w h = rw (lowered_above w h)
+
 pub word_lowered : (w : ℕ) → w < 2 ^ 64 → word_of (lowered_of w) ≡ (w + 2 ^ 63) % 2 ^ 64
 word_lowered w fits =
     elim (cases_lt w (2 ^ 63)) [

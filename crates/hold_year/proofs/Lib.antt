@@ -3,6 +3,7 @@ pub mod Places
 pub mod Cut
 pub mod Short
 pub mod Going
+pub mod Else
 pub mod Examples
 pub mod Steady
 pub mod Printed

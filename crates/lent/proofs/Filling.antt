@@ -1,13 +1,25 @@
 -- A room that is filled a word at a time: from an index on with zeros, or from the front with the words of an answer.
 -- Assumes nothing.
-use mathlib.Core.Path.{◌≡◌}
-use mathlib.Core.List.{List, ◌++◌, append_assoc}
-use Prim.Native.Nat.{ℕ, suc, ◌+◌, ◌-◌, ◌<◌}
+use mathlib.Core.Path.{◌≡◌, ap}
+use mathlib.Core.List.{List, ◌++◌, append_assoc, append-nil}
+use Prim.Native.Nat.{ℕ, suc, ◌+◌, ◌-◌, ◌<◌, ◌≤◌}
 use native.Mathlib.Numerals.{add-one}
 use native.Mathlib.Omega.{arith}
-use lib.ListN.{length, take, drop, set, get_or, replicate}
-use lib.Seq.{take-suc, drop-cons, set_at, take-append_seam, length-take-le}
+use lib.ListN.{length, take, drop, set, get_or, replicate, length-set}
+use lib.Seq.{take-suc, drop-cons, set_at, take-suc-set, take_all, take-append_seam, length-take-le}
 use Rattle.lent.specs.Outcome.{wiped}
+
+-- Once the word at i is 0, wiping from the next one on comes to the same.
+pub wiped_step : (room : List ℕ) (i : ℕ) → i < length room → wiped (set room i 0) (i + 1) ≡ wiped room i
+unfolding wiped
+wiped_step room i h =
+    let rest : suc (length (set room i 0) - suc i) ≡ length room - i = omega (arith, length-set room i 0) in
+    rw (add-one, take-suc-set room i 0 h, append_assoc) (ap (λ (n : ℕ). take i room ++ replicate n 0) rest)
+
+-- Past the end there is nothing to wipe.
+pub wiped_past : (room : List ℕ) (i : ℕ) → length room ≤ i → wiped room i ≡ room
+unfolding wiped
+wiped_past room i h = let none : length room - i ≡ 0 = omega arith in rw (none, append-nil, take_all i room h)
 
 pub wiped_whole : (room : List ℕ) → wiped room 0 ≡ replicate (length room) 0
 unfolding wiped

@@ -56,6 +56,7 @@ use Rattle.plan_model.specs.Asked.{table_plan, asked_plan}
 use Rattle.plan_model.specs.Laid.{plan_number, plan_room, action_room_of}
 use Rattle.plan_model.specs.Plan.{paths_for, paths_planned, times_planned, hints_planned, long_plan, short_plan, plan_of, all_actions}
 use Rattle.arrival_times.specs.Asked.{asked_arrivals}
+use Rattle.arrival_times.specs.Words.{arrivals_outcome}
 use Rattle.marked_examples.specs.Marked.{Marked}
 use Rattle.marked_examples.proofs.Printed.{crossing_printed}
 
@@ -76,7 +77,7 @@ unfolding asked_proximity asked_conflict carts_examined legs_examined asked_hint
     paths_planned paths_for path_for by_hints taken along_hints hints_at built ended stopped hold_after plan_number plan_room
     action_room_of has_room words_in all_actions action_words root_of least_units root_pattern whole_root later_of earlier_of span_between
     span_sum is_exact seconds_of instant_after_seconds span_of_seconds instant_after Ieee.of_bits Ieee.of_int Ieee.add Ieee.sub
-    Ieee.mul Ieee.div Ieee.le Ieee.to_signed Ieee.to_bits asked_arrivals ends_near flee relieved sooner Ieee.lt
+    Ieee.mul Ieee.div Ieee.le Ieee.to_signed Ieee.to_bits asked_arrivals arrivals_outcome ends_near flee relieved sooner Ieee.lt
 marked =
     record {
       limit = refl;
@@ -86,7 +87,9 @@ marked =
       p3 = refl;
       p4 = refl;
       p5 = refl;
+      p5_number = refl;
       p6 = refl;
+      p6_number = refl;
       p7 = refl;
       p8_near = refl;
       p8 = refl;
@@ -99,5 +102,6 @@ marked =
       p10_actions = refl;
       p10_printed = crossing_printed refl;
       p10_spent = refl;
+      p10_spent_number = refl;
       p10_brief = refl;
     }

@@ -4,6 +4,7 @@
 use Rattle.std.specs.Prelude.{ℕ, ◌*◌, ◌≡◌, List, [], ◌∷◌, ◌++◌, map, pos, Float}
 use Rattle.std.specs.Float.{binary64}
 use Rattle.std.specs.Float.Ieee.{of_bits}
+use Rattle.lent.specs.Outcome.{Refuses}
 use Rattle.times.specs.declared.time.Duration.{Duration}
 use Rattle.times.specs.declared.time.TimePoint.{TimePoint}
 use Rattle.shapes.specs.Distance.{critical_distance_squared}
@@ -11,6 +12,7 @@ use Rattle.shapes.specs.declared.profile.CircularProfile.{CircularProfile}
 use Rattle.shapes.specs.declared.waypoint.Leg.{Leg}
 use Rattle.shapes.specs.declared.waypoint.Waypoint.{Waypoint}
 use Rattle.proximity.specs.Asked.{asked_proximity}
+use Rattle.proximity.specs.Proximity.{proximity_outcome}
 use Rattle.proximity.specs.declared.detect.Proximity.TheVariants as P
 use Rattle.conflicts.specs.Asked.{asked_conflict}
 use Rattle.conflicts.specs.declared.conflict.Verdict.TheVariants as J
@@ -19,6 +21,7 @@ use Rattle.hint_ranking.specs.Hints as R
 use Rattle.hints.specs.Asked.{asked_hints}
 use Rattle.arrival_search.specs.Search as A
 use Rattle.arrival_times.specs.Asked.{asked_arrivals}
+use Rattle.arrival_times.specs.Words.{arrivals_outcome}
 use Rattle.path_actions.specs.declared.action.SafeAction.TheVariants.{Move, Wait}
 use Rattle.plan_model.specs.Asked.{asked_plan}
 use Rattle.plan_model.specs.Laid.{plan_number, plan_room, action_room_of}
@@ -140,6 +143,7 @@ crossing_plan =
       actions = Move (on four zero 4_000) ∷ (Wait 0 (at 6_000) ∷ (Move (on ten zero 12_000) ∷ []));
     } ∷ [])
 
+-- A refusal stands by its name and, as it is handed out, by its number (RULES, section 4).
 pub record Marked : Type 0 where
   -- The limit is 1 (RULES, section 16).
   pub limit : critical_distance_squared cart cart ≡ one
@@ -154,8 +158,10 @@ pub record Marked : Type 0 where
   pub p4 : asked_arrivals cart (here 2_500) stopping ≡ A.Answered [] 2
   -- A cart that touches the clearance and turns away leaves the search stuck (RULES 16.5).
   pub p5 : asked_arrivals cart (here 0) turning ≡ A.Refused Refusals.Stuck
+  pub p5_number : arrivals_outcome (asked_arrivals cart (here 0) turning) ≡ Refuses 8
   -- A cart that creeps away over the limit is refused (RULES 16.6),
   pub p6 : asked_proximity one (stay 1_000_000) (way one zero little zero 1_000_000) ≡ Err Refusals.Creep
+  pub p6_number : proximity_outcome (asked_proximity one (stay 1_000_000) (way one zero little zero 1_000_000)) ≡ Refuses 5
   -- and one that creeps within it stays near (RULES 16.7).
   pub p7 : asked_proximity one (stay 1_000_000) (way half zero less zero 1_000_000) ≡ Ok (P.Enters (at 0))
   -- Two carts that drive at one another are in conflict (RULES 16.8).
@@ -189,6 +195,7 @@ pub record Marked : Type 0 where
       (bytes_of "wait 0 6000000000\n" ++ bytes_of "move 12000000000 4024000000000000 0000000000000000\n")))
   -- without a pop it is refused (RULES 13.21).
   pub p10_spent : plan_with 0 ≡ Refused Refusals.Spent
+  pub p10_spent_number : plan_number (plan_with 0) 8 12 ≡ 11
   -- The same way in 9 ns is one Move (RULES 13.4, 15.9).
   pub p10_brief : asked_plan cart brief 4_096 crossing ≡
       Planned 0 0 0 (record { arrival = record { 0 = pos 9 }; pops = 0; hold = lasting 0; actions = Move brief.end ∷ [] } ∷ [])

@@ -21,7 +21,7 @@ use refusals::Refusal;
 use times::time::{Duration, TimePoint};
 
 // How many actions a path has, with its pops and its hold; or no path, with the pops.
-#[derive(Clone, Copy, Debug, PartialEq, Eq)]
+#[derive(Clone, Copy, PartialEq, Eq)]
 pub enum Found {
     Path(usize, u64, Duration),
     Missing(u64),

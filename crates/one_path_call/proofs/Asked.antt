@@ -15,15 +15,21 @@ use Rattle.table.specs.Examined.{agent_examined}
 use Rattle.hint_list.specs.Words.{hints_in}
 use Rattle.hint_ranking.specs.Hints.{Ranked, Of, Refused, filled_by}
 use Rattle.hint_words.specs.Lent.{lent_hints, Takes}
-use Rattle.domain.specs.Beside.{is_budget, with_numbers}
+use Rattle.domain.specs.Beside.{is_budget, with_numbers, found_told}
 use Rattle.domain.proofs.Fine.{lent_not_fine}
+use Rattle.domain.proofs.Told.{lent_tells}
 use Rattle.one_path.specs.Path as P
 use Rattle.one_path.specs.Asked.{lone_path, asked_path}
-use Rattle.one_path_call.specs.Taken.{with_taken}
+use Rattle.one_path_call.specs.Taken.{with_taken, with_taken_told}
 use Rattle.std.specs.Prelude.{Result, Ok, Err}
 use Rattle.refusals.specs.Names.{refusal_number}
 use Rattle.refusals.specs.declared.Refusal.{Refusal}
 use Rattle.refusals.specs.declared.Refusal.TheVariants as Refusals
+
+-- What is told with the hints is the number of what is found with them.
+pub taken_tells : (r : Result ℕ Refusal) (e : Result Unit Refusal) → with_taken_told r (found_told e) ≡ found_told (with_taken r e)
+taken_tells (Ok n) e = refl
+taken_tells (Err why) e = lent_tells (refusal_number why) e
 
 -- Nothing wrong is found only where nothing is wrong beside the hints.
 pub taken_fine : (r : Result ℕ Refusal) (beside : Result Unit Refusal) → with_taken r beside ≡ (Ok tt) → beside ≡ (Ok tt)

@@ -4,7 +4,7 @@ ghost use Rattle.lent.specs.Outcome.{Handed};
 ghost use Rattle.table.specs.Lent.{lent_of};
 ghost use Rattle.table.specs.Table.{obstacles_in};
 ghost use Rattle.hint_list.specs.Words.{hints_in};
-ghost use Rattle.one_path_call.specs.Taken.{with_taken};
+ghost use Rattle.one_path_call.specs.Taken.{with_taken_told};
 ghost use Rattle.one_path.specs.Path.{path_for};
 ghost use Rattle.one_path.specs.Asked.{lone_path, path_outcome, asked_path};
 
@@ -87,9 +87,9 @@ fn path_among(
     }
 }
 
-// What is found with lent hints that are taken over or refused.
-fn with_taken(taken: Result<usize, Refusal>, found: Result<(), Refusal>) -> Result<(), Refusal>
-    ensures { result ≡ with_taken taken found }
+// What is found, told by its number, with lent hints that are taken over or refused.
+fn with_taken(taken: Result<usize, Refusal>, found: Result<(), u64>) -> Result<(), u64>
+    ensures { result ≡ with_taken_told taken found }
 {
     match taken {
         Ok(_count) => found,
@@ -124,10 +124,10 @@ pub fn arrival_path(
     let mut marks = [0u64; 417];
     let mut places = [0.0; 800];
     let packed = packing::pack(starts, numbers, times, xs, ys, &mut marks, &mut places);
-    let found = examine::examine(packed, p, agent, &marks, &places);
+    let found = examine::examine(packed, p, agent, &marks, &places).map_err(u64::from);
     let input = with_taken(taken, beside::with_numbers(others, found));
     match input {
-        Err(why) => words::refuse(out, u64::from(why)),
+        Err(number) => words::refuse(out, number),
         Ok(()) => {
             if agent.is_brief() {
                 return words::refuse(out, u64::from(Refusal::NoLine));

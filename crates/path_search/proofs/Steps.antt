@@ -1,7 +1,7 @@
 -- The recursion a step at a time, as the code takes it: by the ending that a hint's try hands back, and the chain that it leaves
 -- (RULES 13.12 to 13.21).
 -- Assumes nothing.
-use mathlib.Core.Path.{◌≡◌, sym, ap, ◌∙◌}
+use mathlib.Core.Path.{◌≡◌, refl, sym, ap, ◌∙◌}
 use mathlib.Core.Bool.{Bool, true, false, true≢false}
 use mathlib.Core.List.{List}
 use Rattle.std.specs.Prelude.{Option, Some, None}
@@ -41,6 +41,13 @@ is_blocked (Ok E.Found) = false
 is_blocked (Ok E.Blocked) = true
 is_blocked (Ok E.Unreached) = false
 is_blocked (Err n) = false
+
+-- Any ending but this one.
+pub not_blocked : (e : Result Ending Refusal) → (e ≡ Ok E.Blocked → ⊥) → is_blocked e ≡ false
+not_blocked (Ok E.Found) other = refl
+not_blocked (Ok E.Blocked) other = absurd (other refl)
+not_blocked (Ok E.Unreached) other = refl
+not_blocked (Err why) other = refl
 
 -- A try that was lent a chain: r is what the code has of it, `left` the chain that it left.
 module _ {lent left : List ℕ} {r : D.Tried} where

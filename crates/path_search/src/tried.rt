@@ -6,7 +6,7 @@ ghost use Rattle.path_search.specs.Handed.{tried_to};
 use refusals::Refusal;
 
 // A chain was found; the hint's way to its parent is not safe; or that way is safe, and no way to the hint is.
-#[derive(Clone, Copy, Debug, PartialEq, Eq)]
+#[derive(Clone, Copy, PartialEq, Eq)]
 pub enum Ending {
     Found,
     Blocked,
@@ -15,7 +15,7 @@ pub enum Ending {
 
 // How trying ended, or why it was refused, and the pops made so far. A chain that was found stands in a list that the caller lends:
 // the count of its links, then they, hints by their index, the first to be waited at first.
-#[derive(Clone, Copy, Debug, PartialEq, Eq)]
+#[derive(Clone, Copy, PartialEq, Eq)]
 pub struct Tried {
     pub ending: Result<Ending, Refusal>,
     pub pops: u64,

@@ -2,6 +2,7 @@
 -- Assumes nothing.
 use Prim.Native.Nat.{ℕ}
 use mathlib.Core.Path.{◌≡◌, refl, ap, ◌∙◌}
+use Rattle.std.specs.Prelude.{◌≢◌}
 use mathlib.Core.Bool.{Bool, true, false, true≢false}
 use mathlib.Core.List.{List}
 use lib.ListN.{length}
@@ -18,7 +19,8 @@ use Rattle.hint_ranking.specs.Hints.{Ranked}
 use Rattle.hints.specs.Contour.{scale_of, ranked_hints}
 use Rattle.hints.specs.declared.contour.Scale.{Scale}
 use Rattle.arrival_search.specs.Search as A
-use Rattle.arrival_legs.specs.Watched.{arrivals_at}
+use Rattle.arrival_search.proofs.Theorems.{finished}
+use Rattle.arrival_legs.specs.Watched.{arrivals_at, view_at, watched_all}
 use Rattle.domain.specs.Beside.{is_budget, with_numbers}
 use Rattle.plan_model.specs.Asked.{table_plan, asked_plan}
 use Rattle.plan_model.specs.Plan.{Path, Paths, Of, Planned, Refused, with_scale, hinted, timed, planned, trip_of, paths_for}
@@ -41,6 +43,11 @@ pub record Made (p : CircularProfile) (agent : Leg) (budget : ℕ) (os : List Ob
   pub arrivals : arrivals_at p agent.end os ≡ A.Answered list sweeps
   pub time_count : length list ≡ times
   pub paths : paths_for (trip_of p agent scale) os found budget list ≡ Of ps
+
+-- A search that ran out of turns is never the answer.
+never : (p : CircularProfile) (agent : Leg) (os : List Obstacle) → arrivals_at p agent.end os ≢ A.Unfinished
+unfolding arrivals_at
+never p agent os = finished (view_at agent.end) (watched_all p os) agent.end.time
 
 module _ {hints times sweeps : ℕ} {ps : List Path} where
   not_planned : {n : Refusal} → Refused n ≡ Planned hints times sweeps ps → ⊥
@@ -79,7 +86,7 @@ module _ {hints times sweeps : ℕ} {ps : List Path} where
         by_times scale line own unrefused (A.Answered list n) arrivals e =
             by_paths scale line own unrefused list n arrivals (paths_for (trip_of p agent scale) os own budget list) refl e
         by_times scale line own unrefused (A.Refused n) arrivals e = absurd (not_planned e)
-        by_times scale line own unrefused A.Unfinished arrivals e = absurd (not_planned e)
+        by_times scale line own unrefused A.Unfinished arrivals e = absurd (never p agent os arrivals)
 
         by_hints_law : (scale : Scale) → scale_of agent ≡ Ok scale → (own : Ranked) → own_hints p agent os ≡ own →
             hinted own (λ found. times_planned (trip_of p agent scale) os found budget) ≡ Planned hints times sweeps ps →

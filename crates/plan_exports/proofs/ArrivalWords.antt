@@ -1,19 +1,23 @@
 -- Arrival times as words: behind their counts they are the answer (RULES 12.18).
 -- Assumes nothing.
 use Prim.Native.Nat.{ℕ, ◌+◌, ◌≤◌, ◌<◌, min}
-use mathlib.Core.Path.{◌≡◌, sym, ◌∙◌}
+use mathlib.Core.Path.{◌≡◌, refl, sym, ◌∙◌}
 use mathlib.Core.List.{List, ◌∷◌, ◌++◌}
 use native.Mathlib.Omega.{arith}
 use lib.IntN.{ℤ}
 use lib.ListN.{length, take, set, length-map, length-take, length-set}
 use lib.Seq.{take-suc-set}
 use Rattle.std.proofs.lemmas.List.{take_min}
+use Rattle.std.specs.Result.{MatchResult, IsErrAnd}
 use Rattle.lent.specs.Outcome.{Handed, Refuses, number_of, room_of, wiped}
 use Rattle.lent.proofs.Answer.{number_fits, number_short, room_fits, room_short}
 use Rattle.number_words.specs.Word.{word_of}
 use Rattle.arrival_times.specs.Words.{words_of, listing_outcome}
-use Rattle.std.specs.Prelude.{Ok}
+use Rattle.std.specs.Prelude.{Result, Ok, Err}
+use Rattle.refusals.specs.declared.Refusal.{Refusal}
+use Rattle.refusals.specs.Names.{refusal_number}
 use Rattle.arrival_times.specs.declared.listing.Arrivals.{Arrivals}
+use Rattle.plan_exports.specs.Given.{numbered_listing}
 
 module _ (found : Arrivals) (list : List ℤ) where
   abbrev words : List ℕ
@@ -64,3 +68,12 @@ module _ (found : Arrivals) (list : List ℤ) where
           number = sym (number_fits words (length lent) fits);
           room = e ∙ rw (stand, counts_first lent (omega arith), long, ← all) (sym (room_fits words (length lent) fits));
         }
+
+-- A refusal is handed over by its number as it is by itself (RULES 4.14).
+pub listing_numbered : (found : Result Arrivals Refusal) (numbered : Result Arrivals ℕ) (list : List ℤ) →
+    MatchResult found (λ times. numbered ≡ Ok times) (λ why. IsErrAnd numbered (λ number. number ≡ refusal_number why)) →
+    numbered_listing numbered list ≡ listing_outcome found list
+unfolding listing_outcome
+listing_numbered (Ok times) numbered list same = rw same refl
+listing_numbered (Err why) (Ok times) list same = absurd same
+listing_numbered (Err why) (Err number) list same = rw same refl

@@ -40,5 +40,5 @@ pub fn igelbert_arrival_times(
     };
     let mut list = [0i64; 289];
     let found = calls::arrival_times(p, place, starts, numbers, times, xs, ys, &mut list);
-    arrival_words::give_arrivals(found, &list, out)
+    arrival_words::give_arrivals(found.map_err(u64::from), &list, out)
 }

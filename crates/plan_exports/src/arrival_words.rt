@@ -2,6 +2,7 @@
 ghost use Rattle.std.specs.Prelude.{◌≡◌, ◌++◌, ◌+◌, ◌≤◌, min, length, take, Ok};
 ghost use Rattle.lent.specs.Outcome.{Handed};
 ghost use Rattle.arrival_times.specs.Words.{words_of, listing_outcome};
+ghost use Rattle.plan_exports.specs.Given.{numbered_listing};
 
 use arrival_times::listing::Arrivals;
 use lent::words;
@@ -42,12 +43,11 @@ fn give_listed(found: Arrivals, list: &[i64], out: &mut [u64]) -> u64
 }
 
 // What a search found, its times at the front of `list`.
-#[tactic(auto, unfolding(arrival_times::specs::Words::listing_outcome))]
-pub fn give_arrivals(found: Result<Arrivals, Refusal>, list: &[i64], out: &mut [u64]) -> u64
-    ensures { Handed (listing_outcome found list.now) out.old out.new result }
+pub fn give_arrivals(found: Result<Arrivals, u64>, list: &[i64], out: &mut [u64]) -> u64
+    ensures { Handed (numbered_listing found list.now) out.old out.new result }
 {
     match found {
         Ok(times) => give_listed(times, list, out),
-        Err(why) => words::refuse(out, u64::from(why)),
+        Err(number) => words::refuse(out, number),
     }
 }

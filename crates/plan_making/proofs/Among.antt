@@ -47,7 +47,7 @@ module _ {answer : Searched} {lent left : List ℤ} {r : Result Arrivals Refusal
       by : (a : Searched) → answer ≡ a → Err n ≡ counts_in a (length lent) → timed a go ≡ Refused n
       by (Answered l m) is f = let fits = le-ltb (length lent) (length l) (room l m is) in cc (rw fits at f)
       by (A.Refused m) is f = cc
-      by Unfinished is f = cc
+      by Unfinished is f = absurd (told.ended is)
 
   -- The times listed stand at the front.
   module _ {count sweeps : ℕ} (e : r ≡ listed_as count sweeps) where

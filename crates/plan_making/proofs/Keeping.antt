@@ -128,10 +128,10 @@ module _ {trip : Trip} {os : List Obstacle} {hints : List RankedHint} {budget : 
   abbrev arrival : TimePoint
   arrival = time trip os hints budget list i
 
-  kept_long : length paths ≡ length lent
+  pub kept_long : length paths ≡ length lent
   kept_long = ap length k.rows ∙ rows_long lent k.done
 
-  kept_long_actions : length actions ≡ length lentActions
+  pub kept_long_actions : length actions ≡ length lentActions
   kept_long_actions = ap length k.action_rows_law ∙ actions_long lentActions (all_actions k.done)
 
   -- All are worked through.

@@ -59,10 +59,10 @@ pub fn plan_table(
     ensures { PlanHanded (table_plan packed p agent budget (obstacles_in marks.now places.now)) paths.old
         paths.new actions.old actions.new result }
 {
-    let found = examine::examine(packed, p, agent, marks, places);
+    let found = examine::examine(packed, p, agent, marks, places).map_err(u64::from);
     let input = beside::with_numbers(beside::is_budget(budget), found);
     match input {
-        Err(why) => rooms::refuse(paths, actions, u64::from(why)),
+        Err(number) => rooms::refuse(paths, actions, number),
         Ok(()) => {
             if agent.is_brief() {
                 return rooms::move_at_once(agent, paths, actions);

@@ -24,7 +24,6 @@ use Rattle.one_path.specs.Path as P
 pub use Rattle.one_path.specs.Asked.{trip_of}
 use Rattle.std.specs.Prelude.{Result, Ok, Err}
 use Rattle.refusals.specs.declared.Refusal.{Refusal}
-use Rattle.refusals.specs.declared.Refusal.TheVariants as Refusals
 
 -- A path, the arrival time that it is for, its pops and its hold.
 pub record Path : Type 0 where
@@ -68,11 +67,11 @@ abbrev pub hinted : Ranked → (List RankedHint → Plan) → Plan
 hinted (R.Of hints) go = go hints
 hinted (R.Refused n) go = Refused n
 
--- `Unfinished` is never the answer (`finished` of arrival_search, proofs/Theorems), so any refusal may stand for it.
+-- `Unfinished` is never the answer (`finished` of arrival_search, proofs/Theorems): it is no refusal, and nothing is planned by it.
 abbrev pub timed : A.Searched → (List TimePoint → ℕ → Plan) → Plan
 timed (A.Answered times sweeps) go = go times sweeps
 timed (A.Refused n) go = Refused n
-timed A.Unfinished go = Refused Refusals.Stuck
+timed A.Unfinished go = Planned 0 0 0 []
 
 abbrev pub planned : ℕ → ℕ → ℕ → Paths → Plan
 planned hints times sweeps (Of ps) = Planned hints times sweeps ps

@@ -14,7 +14,7 @@ use shapes::waypoint::Leg;
 use times::time::{Duration, TimePoint};
 
 // How many paths and how many actions there are.
-#[derive(Clone, Copy, Debug, PartialEq, Eq)]
+#[derive(Clone, Copy, PartialEq, Eq)]
 pub struct Paths {
     pub paths: usize,
     pub actions: usize,

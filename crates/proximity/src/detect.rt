@@ -13,7 +13,7 @@ use shapes::waypoint::Leg;
 use times::time::TimePoint;
 
 // Never near, near from an instant on, or near from one to another.
-#[derive(Clone, Copy, Debug, PartialEq, Eq)]
+#[derive(Clone, Copy, PartialEq, Eq)]
 pub enum Proximity {
     Never,
     Enters(TimePoint),

@@ -1,3 +1,4 @@
+pub mod ByNumber
 mod Examined
 pub mod Shapes
 pub mod Legs

@@ -47,7 +47,7 @@ pub const LINE: u64 = 14;
 pub const OVERFLOW: u64 = 15;
 
 // Why a call is refused.
-#[derive(Clone, Copy, Debug, PartialEq, Eq)]
+#[derive(Clone, Copy, PartialEq, Eq)]
 pub enum Refusal {
     // A value is outside the table, lent hints are not ranked, or a number has no root (RULES 4.1).
     Number,

@@ -9,7 +9,7 @@ use number_exports::time_calls;
 use number_words::word;
 
 // The first line that is not as listed, or how many lines there are.
-#[derive(Clone, Copy, Debug, PartialEq, Eq)]
+#[derive(Clone, Copy, PartialEq, Eq)]
 pub enum Verdict {
     AsListed(u64),
     Differs(u64),

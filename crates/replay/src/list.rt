@@ -5,7 +5,7 @@ ghost use Rattle.replay.specs.Line.{call_of, separated, line_of};
 use crate::hex;
 
 // The calls of a list.
-#[derive(Clone, Copy, Debug, PartialEq, Eq)]
+#[derive(Clone, Copy, PartialEq, Eq)]
 pub enum Call {
     SpanBetween,
     InstantAfter,
@@ -16,7 +16,7 @@ pub enum Call {
 }
 
 // A call, what it was called with, and its answer: the number handed back, and the first word of the room.
-#[derive(Clone, Copy, Debug, PartialEq, Eq)]
+#[derive(Clone, Copy, PartialEq, Eq)]
 pub struct Answer {
     pub call: Call,
     pub first: u64,

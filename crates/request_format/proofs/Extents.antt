@@ -25,25 +25,29 @@ extent_from at legs os =
     (Some (at + bits_in_all os))
     None
 
-pub begun : (s : List ℕ) (n : ℕ) → n ≤ 32 → extent_from 510 0 (obstacles_at s 510 (n - 0)) ≡ extent_of (obstacles_at s 510 n)
+-- At the first bit, with no leg counted, all obstacles are to come; their count has a limit of its own.
+pub extent_whole : (os : List StreamObstacle) → length os ≤ 32 → extent_from 510 0 os ≡ extent_of os
 unfolding extent_from extent_of are_counted request_bits
-begun s n few =
-    let os = obstacles_at s 510 n in
-    let all : n - 0 ≡ n = omega arith in
-    let none : 0 + legs_counted os ≡ legs_counted os = omega arith in
-    rw (all, none, le-leb (length os) 32 (omega (arith, length_obstacles s 510 n)))
+extent_whole os few =
+    let none : 0 + legs_counted os ≡ legs_counted os = omega arith in rw (none, le-leb (length os) 32 few)
 
-extent_single : (at legs : ℕ) (o : StreamObstacle) (os : List StreamObstacle) →
+pub begun : (s : List ℕ) (n : ℕ) → n ≤ 32 → extent_from 510 0 (obstacles_at s 510 (n - 0)) ≡ extent_of (obstacles_at s 510 n)
+begun s n few =
+    let all : n - 0 ≡ n = omega arith in
+    rw all (extent_whole (obstacles_at s 510 n) (omega (arith, length_obstacles s 510 n)))
+
+-- By the first of any obstacles: one waypoint alone, or too many legs, are not counted, and else the others follow.
+pub extent_single : (at legs : ℕ) (o : StreamObstacle) (os : List StreamObstacle) →
     length o.points ≡ 1 → extent_from at legs (o ∷ os) ≡ None
 unfolding extent_from every
 extent_single at legs o os h = rw (eq-eqb (length o.points) 1 h, and-false)
 
-extent_many : (at legs : ℕ) (o : StreamObstacle) (os : List StreamObstacle) →
+pub extent_many : (at legs : ℕ) (o : StreamObstacle) (os : List StreamObstacle) →
     256 < legs + (length o.points - 1) → extent_from at legs (o ∷ os) ≡ None
 unfolding extent_from legs_counted
 extent_many at legs o os h = rw (lt-leb (legs + ((length o.points - 1) + legs_counted os)) 256 (omega arith))
 
-extent_next : (at legs : ℕ) (o : StreamObstacle) (os : List StreamObstacle) → (length o.points ≡ 1 → ⊥) →
+pub extent_next : (at legs : ℕ) (o : StreamObstacle) (os : List StreamObstacle) → (length o.points ≡ 1 → ⊥) →
     extent_from at legs (o ∷ os) ≡ extent_from (at + (201 + 178 * length o.points)) (legs + (length o.points - 1)) os
 unfolding extent_from every legs_counted bits_in_all
 extent_next at legs o os h =

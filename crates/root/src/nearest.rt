@@ -11,7 +11,7 @@ use crate::{guess, trial};
 use refusals::Refusal;
 
 // There is no root: refusal 1.
-#[derive(Clone, Copy, Debug, PartialEq, Eq)]
+#[derive(Clone, Copy, PartialEq, Eq)]
 pub struct NoRoot;
 
 impl From<NoRoot> for Refusal {

@@ -11,6 +11,11 @@ use Rattle.lent.proofs.Listed.{listed_done, listed_next}
 use Rattle.shapes.specs.Box.{overlap}
 use Rattle.shapes.specs.declared.bounding_box.BoundingBox.{BoundingBox}
 use Rattle.shapes.specs.declared.waypoint.Leg.{Leg}
+use Rattle.times.specs.declared.time.TimePoint.{TimePoint}
+use Rattle.proximity.specs.Proximity.{proximity_of, entry_of}
+use Rattle.proximity.specs.declared.detect.Proximity.{Proximity}
+use Rattle.proximity.specs.declared.detect.Proximity.TheVariants.{Never, Enters, Passes}
+use Rattle.conflicts.specs.Conflict.{entered_at, judged, proximity_in_boxes, conflict_of}
 use Rattle.conflicts.specs.declared.conflict.Verdict.{Verdict}
 use Rattle.conflicts.specs.declared.conflict.Verdict.TheVariants.{Clear, Conflict}
 use Rattle.table.specs.Obstacle.{legs_of}
@@ -18,12 +23,16 @@ use Rattle.table.specs.Table.{first_in, profile_in, limit_in, box_in, leg_in, wa
 use Rattle.table.specs.Walked.{walked_in}
 use Rattle.table.proofs.Walking.{legs_walked}
 use Rattle.segments.specs.Segment.{leg_verdict, or_else, first_of, obstacle_verdict}
-use Rattle.std.specs.Prelude.{Result, Ok, Err}
+use Rattle.std.specs.Prelude.{Result, Ok, Err, Some, None}
 use Rattle.refusals.specs.declared.Refusal.{Refusal}
 
 -- An answer that is not clear: a conflict or a refusal.
-abbrev Ends : Result Verdict Refusal → Type 0
+abbrev pub Ends : Result Verdict Refusal → Type 0
 Ends v = v ≡ Ok Clear → ⊥
+
+-- A refusal is no clear verdict.
+pub refusal_ends : (why : Refusal) → Ends (Err why)
+refusal_ends why e = cc
 
 ends : (v rest : Result Verdict Refusal) → Ends v → or_else v rest ≡ v
 ends (Ok Clear) rest k = absurd (k refl)
@@ -62,5 +71,31 @@ obstacle_begins agent bounds marks places o =
     by true = refl
     by false = refl
 
+-- The verdict on two legs in their boxes is what the answer of proximity in these makes of it;
+pub in_boxes : (agent : Leg) (bounds : BoundingBox) (obstacle : Leg) (other : BoundingBox) (limit : Float) →
+    judged limit agent obstacle (proximity_in_boxes agent bounds obstacle other limit) ≡
+    conflict_of agent bounds obstacle other limit
+unfolding proximity_in_boxes conflict_of
+in_boxes agent bounds obstacle other limit = by (overlap bounds other)
+  where
+    by : (b : Bool) →
+        judged limit agent obstacle (cond b (proximity_of limit agent obstacle) (Ok Never)) ≡
+        cond b (judged limit agent obstacle (proximity_of limit agent obstacle)) (Ok Clear)
+    by true = refl
+    by false = refl
+
+-- an answer without an entry is clear, and one with an entry is judged by it.
+pub no_entry : (limit : Float) (agent obstacle : Leg) (p : Proximity) →
+    entry_of (Ok p) ≡ None → judged limit agent obstacle (Ok p) ≡ Ok Clear
+no_entry limit agent obstacle Never e = refl
+no_entry limit agent obstacle (Enters t) e = cc
+no_entry limit agent obstacle (Passes t u) e = cc
+
+pub with_entry : (limit : Float) (agent obstacle : Leg) (p : Proximity) (t : TimePoint) →
+    entry_of (Ok p) ≡ Some t → judged limit agent obstacle (Ok p) ≡ entered_at limit agent obstacle t
+with_entry limit agent obstacle Never t e = cc
+with_entry limit agent obstacle (Enters u) t e = cc
+with_entry limit agent obstacle (Passes u v) t e = cc
+
 -- What a loop that ends at the first answer which is not clear cites.
-pub ruleset walk = (first_done, first_next, first_here, obstacle_begins)
+pub ruleset walk = (first_done, first_next, first_here, obstacle_begins, no_entry, with_entry)

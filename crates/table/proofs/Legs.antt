@@ -42,7 +42,7 @@ pub legs_count : (w : ℕ → Waypoint) (end i : ℕ) → length (legs_of (liste
 legs_count w end i = length_legs (listed_to w end i) ∙ ap (λ n. n - 1) (length_listed w (end - i) i)
 
 -- The legs up to the waypoint at `last`, one by one.
-legs_listed : (w : ℕ → Waypoint) (last i : ℕ) →
+pub legs_listed : (w : ℕ → Waypoint) (last i : ℕ) →
     listed_to (λ j. record { start = w j; end = w (j + 1) }) last i ≡ legs_of (listed_to w (last + 1) i)
 legs_listed w last i = by (last - i) i refl
   where

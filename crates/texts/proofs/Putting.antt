@@ -117,7 +117,18 @@ pub record Goes (rest room : List ℕ) (at : ℕ) (whole lent : List ℕ) (from 
 pub goes_all : (whole lent : List ℕ) (from : ℕ) → Goes whole lent from whole lent from
 goes_all whole lent from = record { same_room = refl; same_place = refl; kept = refl }
 
--- Past the room's end every place is as good as the one right behind it.
+-- Past the room's end every place is as good as another,
+pub goes_past : (whole lent : List ℕ) (at from : ℕ) → length lent < at → length lent < from → Goes whole lent at whole lent from
+goes_past whole lent at from h k =
+    record {
+      same_room = bytes_past lent at whole (omega arith) ∙ sym (bytes_past lent from whole (omega arith));
+      same_place =
+          reached_short (length lent) at (length whole) (omega arith) ∙
+          sym (reached_short (length lent) from (length whole) (omega arith));
+      kept = refl;
+    }
+
+-- and so as the one right behind it.
 pub goes_near : (whole lent : List ℕ) (from : ℕ) → Goes whole lent (min from (length lent + 1)) whole lent from
 goes_near whole lent from = either from (length lent + 1) Near near far
   where
@@ -130,14 +141,7 @@ goes_near whole lent from = either from (length lent + 1) Near near far
     far : length lent + 1 < from → Near
     far h =
         let end : min from (length lent + 1) ≡ length lent + 1 = omega arith in
-        rw end
-        record {
-          same_room = bytes_past lent (length lent + 1) whole (omega arith) ∙ sym (bytes_past lent from whole (omega arith));
-          same_place =
-              reached_short (length lent) (length lent + 1) (length whole) (omega arith) ∙
-              sym (reached_short (length lent) from (length whole) (omega arith));
-          kept = refl;
-        }
+        rw end (goes_past whole lent (length lent + 1) from (omega arith) (omega arith))
 
 pub goes_on : {xs ys room left whole lent : List ℕ} {at r from : ℕ} →
     Goes (xs ++ ys) room at whole lent from → PutText xs room at left r → Goes ys left r whole lent from

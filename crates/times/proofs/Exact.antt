@@ -6,7 +6,7 @@ use mathlib.Core.Bool.{and-true, false≢true}
 use borrow.Author.Tests.{lt-leb}
 use lib.Dec.{leb-suc-suc}
 use lib.IntN.{sub_ℕ, +ℤ_comm, neg_ℤ-+ℤ, neg_ℤ-neg_ℤ}
-use lib.Signed.{lt_z}
+use lib.Signed.{lt_z, le_z}
 use Rattle.times.specs.Time.{is_exact}
 
 at_most : (a b : ℕ) → leb a b ≡ not (ltb b a)
@@ -21,6 +21,12 @@ pub two_sided : (z : ℤ) → is_exact z ≡ (not (lt_z z (negsuc 90071992547409
 unfolding is_exact
 two_sided (pos n) = at_most n 9007199254740992
 two_sided (negsuc n) = leb-suc-suc n 9007199254740991 ∙ at_most n 9007199254740991 ∙ sym (and-true _)
+
+-- The same by what is at most what: exact is at least -2^53 and at most 2^53.
+pub between : (z : ℤ) → is_exact z ≡ (le_z (negsuc 9007199254740991) z && le_z z (pos 9007199254740992))
+unfolding is_exact
+between (pos n) = refl
+between (negsuc n) = leb-suc-suc n 9007199254740991 ∙ sym (and-true _)
 
 size_subℕ : (a b : ℕ) → nat_abs (sub_ℕ a b) ≤ a + b
 size_subℕ a b = by (ltb a b) refl

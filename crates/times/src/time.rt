@@ -7,15 +7,15 @@ ghost use Rattle.times.specs.Time.{instant_after_seconds, seconds_of, span_sum, 
 use refusals::Refusal;
 
 // An instant: nanoseconds since the start.
-#[derive(Clone, Copy, Debug, PartialEq, Eq, PartialOrd, Ord)]
+#[derive(Clone, Copy, PartialEq, Eq, PartialOrd, Ord)]
 pub struct TimePoint(pub i64);
 
 // A span: nanoseconds from one instant to another.
-#[derive(Clone, Copy, Debug, PartialEq, Eq, PartialOrd, Ord)]
+#[derive(Clone, Copy, PartialEq, Eq, PartialOrd, Ord)]
 pub struct Duration(pub i64);
 
 // A time passes 2^53 ns in size: refusal 7.
-#[derive(Clone, Copy, Debug, PartialEq, Eq)]
+#[derive(Clone, Copy, PartialEq, Eq)]
 pub struct Strayed;
 
 impl From<Strayed> for Refusal {
@@ -27,13 +27,13 @@ impl From<Strayed> for Refusal {
 }
 
 // The most nanoseconds in size that an instant or a span may have: 2^53.
-const MOST: u64 = 9007199254740992;
+const MOST: i64 = 9007199254740992;
 
-// Whether a number of nanoseconds is at most 2^53 in size.
+// Whether a number of nanoseconds is at most 2^53 in size, by both of its ends: so the compiler knows the range of what is exact.
 fn is_exact(ns: i64) -> bool
     ensures { result ≡ is_exact ns }
 {
-    ns.unsigned_abs() <= MOST
+    -MOST <= ns && ns <= MOST
 }
 
 // The number itself, where it is.

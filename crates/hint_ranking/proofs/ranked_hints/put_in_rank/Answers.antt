@@ -7,7 +7,7 @@ use lib.ListN.{length, take}
 use lib.Seq.{length-take-le}
 use Rattle.hint_list.specs.Words.{count_in, hints_in}
 use Rattle.hint_list.proofs.Reading.{counted}
-use Rattle.hint_ranking.proofs.Places.{place_at_most, gap_last, gap_moves}
+use Rattle.hint_ranking.proofs.Places.{place_at_most, gap_last, gap_climbs}
 use Rattle.hint_ranking.proofs.ranked_hints.put_in_rank.Goals as goal
 use Rattle.hint_ranking.proofs.ranked_hints.put_in_rank.Goals.{Else-count_of-n}
 
@@ -28,5 +28,5 @@ loop-j-preserved c =
     let words = c.args.hints.now in
     let l = c.loop-j in
     let there = room (goal.at.loop-j-preserved c).Else-count_of-n in
-    let moves = gap_moves words c.args.n (l.j - 1) l.j l.hints (omega arith) (omega arith) (omega arith) l.invariant.1 in
+    let moves = gap_climbs words c.args.n (l.j - 1) l.j l.hints (omega arith) (omega arith) (omega arith) l.invariant.1 in
     (omega arith, rw (c.put_hint.ensures, c.hint_at-x.ensures) moves)

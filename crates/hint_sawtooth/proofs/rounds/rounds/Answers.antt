@@ -54,4 +54,4 @@ returns-in-Err c =
     let l = c.loop-hint in
     let a = c.args in
     let lost : round_of a.agent a.leg a.chase a.obstacle l.s1 l.t1 ≡ strayed = search rules in
-    l.invariant _ _ (rw (one_round _ _ _ _ l.m l.s1 l.t1, lost) c.refuse.ensures)
+    l.invariant _ _ (rw (one_round _ _ _ _ l.m l.s1 l.t1, lost) c.refuse_for.ensures)

@@ -5,6 +5,7 @@ use mathlib.Core.Path.{◌≡◌, sym, ◌∙◌}
 use Rattle.table.specs.Examined.{table_examined}
 use Rattle.table.specs.Table.{obstacles_in}
 use Rattle.domain.specs.Beside.{is_budget, with_numbers}
+use Rattle.domain.proofs.Told.{fine_told, refused_told, numbers_mapped}
 use Rattle.plan_model.specs.Plan.{plan_of}
 use Rattle.plan_model.specs.Asked.{table_plan}
 use Rattle.plan_model.proofs.Handing.{refused_both}
@@ -19,8 +20,8 @@ asked : (c : In-Ok) →
     let os = obstacles_in a.marks.now a.places.now in
     with_numbers (is_budget a.budget) (table_examined a.packed a.p a.agent os) ≡ Ok tt
 asked c =
-    rw (c.is_budget.ensures, c.examine-found.ensures)
-    at (sym c.with_numbers-input.ensures ∙ c.in-Ok.is)
+    rw (c.is_budget.ensures, c.examine.ensures)
+    at (fine_told _ (sym (numbers_mapped _ _ _ c.map_err-found.ensures.cases c.with_numbers-input.ensures) ∙ c.in-Ok.is))
 
 pub returns-then-is_brief : goal.returns-then-is_brief
 unfolding table_plan plan_of
@@ -37,12 +38,14 @@ plan_among-requires c =
 pub returns-in-Err : goal.returns-in-Err
 unfolding table_plan
 returns-in-Err c =
+    let told = numbers_mapped _ _ _ c.map_err-found.ensures.cases c.with_numbers-input.ensures in
+    let why = refused_told _ _ (sym told ∙ c.in-Err.is) in
     rw (
       ← c.is_budget.ensures,
-      ← c.examine-found.ensures,
-      sym c.with_numbers-input.ensures ∙ c.in-Err.is,
+      ← c.examine.ensures,
+      why.1.0,
     )
-    (refused_both c.in-Err.why c.from.ensures c.refuse.ensures)
+    (refused_both why.0 why.1.1 c.refuse.ensures)
 
 pub returns-else-is_brief : goal.returns-else-is_brief
 unfolding table_plan plan_of
