@@ -8,6 +8,12 @@ use Rattle.domain.proofs.beside.is_budget.Met as beside_is_budget_met
 use Rattle.domain.specs.contracts.beside.is_asked as beside_is_asked
 use Rattle.domain.proofs.beside.is_asked.Symbol as beside_is_asked_symbol
 use Rattle.domain.proofs.beside.is_asked.Met as beside_is_asked_met
+use Rattle.domain.specs.contracts.beside.with_numbers_told as beside_with_numbers_told
+use Rattle.domain.proofs.beside.with_numbers_told.Symbol as beside_with_numbers_told_symbol
+use Rattle.domain.proofs.beside.with_numbers_told.Met as beside_with_numbers_told_met
+use Rattle.domain.specs.contracts.beside.with_lent_told as beside_with_lent_told
+use Rattle.domain.proofs.beside.with_lent_told.Symbol as beside_with_lent_told_symbol
+use Rattle.domain.proofs.beside.with_lent_told.Met as beside_with_lent_told_met
 use Rattle.domain.specs.contracts.beside.with_numbers as beside_with_numbers
 use Rattle.domain.proofs.beside.with_numbers.Symbol as beside_with_numbers_symbol
 use Rattle.domain.proofs.beside.with_numbers.Met as beside_with_numbers_met
@@ -84,6 +90,26 @@ beside_is_asked_determined = record {
   free = λ M 𝓤 𝓛 mem run κs a. (tt, id⊢ 𝓤 (emp 𝓤));
   one = λ M 𝓤 𝓛 mem run κs a g g' r r' left left' s s'.
       by_clause 𝓤 beside_is_asked.ended κs a r r' left left' (λ p q. (search one_answer, search one_answer)) s s';
+}
+
+pub beside_with_numbers_told_determined :
+    Determined beside_with_numbers_told_symbol.code beside_with_numbers_told_symbol.name beside_with_numbers_told.ended (λ M 𝓤. beside_with_numbers_told.clauses)
+beside_with_numbers_told_determined = record {
+  met = λ M. beside_with_numbers_told_met.met;
+  kept = refl;
+  free = λ M 𝓤 𝓛 mem run κs a. (tt, id⊢ 𝓤 (emp 𝓤));
+  one = λ M 𝓤 𝓛 mem run κs a g g' r r' left left' s s'.
+      by_clause 𝓤 beside_with_numbers_told.ended κs a r r' left left' (λ p q. (search one_answer, search one_answer)) s s';
+}
+
+pub beside_with_lent_told_determined :
+    Determined beside_with_lent_told_symbol.code beside_with_lent_told_symbol.name beside_with_lent_told.ended (λ M 𝓤. beside_with_lent_told.clauses)
+beside_with_lent_told_determined = record {
+  met = λ M. beside_with_lent_told_met.met;
+  kept = refl;
+  free = λ M 𝓤 𝓛 mem run κs a. (tt, id⊢ 𝓤 (emp 𝓤));
+  one = λ M 𝓤 𝓛 mem run κs a g g' r r' left left' s s'.
+      by_clause 𝓤 beside_with_lent_told.ended κs a r r' left left' (λ p q. (search one_answer, search one_answer)) s s';
 }
 
 pub beside_with_numbers_determined :

@@ -9,6 +9,7 @@ use Rattle.refusals.specs.Names.{NUMBER, SHAPE, refusal_number}
 use Rattle.refusals.specs.declared.Refusal.{Refusal}
 use Rattle.refusals.specs.declared.Refusal.TheVariants as Refusals
 use Rattle.domain.specs.Beside.{numbered, with_numbers, with_lent, found_told, numbered_told, with_numbers_told, with_lent_told}
+use Rattle.domain.specs.Beside.{shape_or_number}
 
 numbered_tells : (e : Result Unit Refusal) → numbered_told (found_told e) ≡ found_told (numbered e)
 numbered_tells (Ok _) = refl
@@ -52,6 +53,45 @@ pub numbers_mapped : (ok : Bool) (e : Result Unit Refusal) (mapped : Result Unit
     MatchResult e (λ x. mapped ≡ Ok x) (λ why. IsErrAnd mapped (λ n. n ≡ refusal_number why)) →
     r ≡ with_numbers_told ok mapped → r ≡ found_told (with_numbers ok e)
 numbers_mapped ok e mapped h t = t ∙ rw (mapped_told e mapped h) (numbers_tell ok e)
+
+-- ---- What was found with a ground for 1 is 2 or 1, and so again what its number tells.
+
+-- The refusal that a number tells of.
+abbrev named : Result Unit ℕ → Result Unit Refusal
+named (Ok _) = Ok tt
+named (Err n) = Err (shape_or_number n)
+
+numbered_named : (e : Result Unit Refusal) → named (found_told (numbered e)) ≡ numbered e
+numbered_named (Ok _) = refl
+numbered_named (Err why) =
+    elim why as (λ k. named (found_told (numbered (Err k))) ≡ numbered (Err k)) [ Refusals.Shape ↦ refl | _ ↦ refl ]
+
+mapped_named : (told : Result Unit ℕ) (r : Result Unit Refusal) →
+    MatchResult told (λ x. r ≡ Ok x) (λ n. IsErrAnd r (λ why. why ≡ shape_or_number n)) → r ≡ named told
+mapped_named (Ok tt) r h = h
+mapped_named (Err n) (Ok tt) h = absurd h
+mapped_named (Err n) (Err why) h = cc h
+
+pub numbers_named : (e : Result Unit Refusal) (mapped told : Result Unit ℕ) {r : Result Unit Refusal} →
+    MatchResult e (λ x. mapped ≡ Ok x) (λ why. IsErrAnd mapped (λ n. n ≡ refusal_number why)) →
+    told ≡ with_numbers_told false mapped →
+    MatchResult told (λ x. r ≡ Ok x) (λ n. IsErrAnd r (λ why. why ≡ shape_or_number n)) → r ≡ with_numbers false e
+unfolding with_numbers
+numbers_named e mapped told {r} h t back =
+    mapped_named told r back ∙ rw (numbers_mapped false e mapped h t) (numbered_named e)
+
+pub lent_named : (number : ℕ) (e : Result Unit Refusal) (mapped told : Result Unit ℕ) {r : Result Unit Refusal} →
+    MatchResult e (λ x. mapped ≡ Ok x) (λ why. IsErrAnd mapped (λ n. n ≡ refusal_number why)) →
+    told ≡ with_lent_told number mapped →
+    MatchResult told (λ x. r ≡ Ok x) (λ n. IsErrAnd r (λ why. why ≡ shape_or_number n)) → r ≡ with_lent number e
+unfolding with_lent
+lent_named number e mapped told {r} h t back =
+    mapped_named told r back ∙ rw (t, mapped_told e mapped h, lent_tells number e) (by (eqb number 2))
+  where
+    by : (count : Bool) →
+        named (found_told (cond count (Err Refusals.Shape) (numbered e))) ≡ cond count (Err Refusals.Shape) (numbered e)
+    by true = refl
+    by false = numbered_named e
 
 -- ---- With more asked, what is told is 1, 2 or what was told without (RULES 5.1).
 

@@ -47,3 +47,7 @@ with_numbers_told ok e = cond ok e (numbered_told e)
 -- `with_lent` of what is told.
 unfoldable pub with_lent_told : ℕ → Result Unit ℕ → Result Unit ℕ
 with_lent_told number e = cond (eqb number SHAPE) (Err SHAPE) (numbered_told e)
+
+-- The refusal that is told by 2 or, with a ground for 1, by 1 (RULES 5.1).
+abbrev pub shape_or_number : ℕ → Refusal
+shape_or_number number = cond (eqb number SHAPE) Refusals.Shape Refusals.Number

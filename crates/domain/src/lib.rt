@@ -4,3 +4,5 @@
 pub mod beside;
 pub mod calls;
 pub mod limits;
+#[cfg(test)]
+mod tests;

@@ -93,7 +93,7 @@ fn with_taken(taken: Result<usize, Refusal>, found: Result<(), u64>) -> Result<(
 {
     match taken {
         Ok(_count) => found,
-        Err(why) => beside::with_lent(u64::from(why), found),
+        Err(why) => beside::with_lent_told(u64::from(why), found),
     }
 }
 
@@ -125,7 +125,7 @@ pub fn arrival_path(
     let mut places = [0.0; 800];
     let packed = packing::pack(starts, numbers, times, xs, ys, &mut marks, &mut places);
     let found = examine::examine(packed, p, agent, &marks, &places).map_err(u64::from);
-    let input = with_taken(taken, beside::with_numbers(others, found));
+    let input = with_taken(taken, beside::with_numbers_told(others, found));
     match input {
         Err(number) => words::refuse(out, number),
         Ok(()) => {

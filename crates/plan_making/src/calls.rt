@@ -60,7 +60,7 @@ pub fn plan_table(
         paths.new actions.old actions.new result }
 {
     let found = examine::examine(packed, p, agent, marks, places).map_err(u64::from);
-    let input = beside::with_numbers(beside::is_budget(budget), found);
+    let input = beside::with_numbers_told(beside::is_budget(budget), found);
     match input {
         Err(number) => rooms::refuse(paths, actions, number),
         Ok(()) => {

@@ -35,7 +35,7 @@ input-found c =
       ← packed_examined (lent_of c.args.starts.now c.args.numbers.now c.args.times.now c.args.xs.now c.args.ys.now) _ _ _ _ _ c.pack-packed.ensures,
       ← c.examine.ensures,
       ← taken_tells c.lent_hints-taken.result (with_numbers c.is_asked-others.result c.examine.result),
-      ← numbers_mapped c.is_asked-others.result c.examine.result c.map_err-found.result c.map_err-found.ensures.cases c.with_numbers.ensures,
+      ← numbers_mapped c.is_asked-others.result c.examine.result c.map_err-found.result c.map_err-found.ensures.cases c.with_numbers_told.ensures,
     )
     (sym c.with_taken-input.ensures)
 
@@ -63,7 +63,7 @@ returns-in-Err c =
 -- Where nothing is wrong, nothing is wrong with the table.
 table-fine : (c : In-Ok) → c.examine.result ≡ (Ok tt)
 table-fine c =
-    let numbers = numbers_mapped _ _ _ c.map_err-found.ensures.cases c.with_numbers.ensures in
+    let numbers = numbers_mapped _ _ _ c.map_err-found.ensures.cases c.with_numbers_told.ensures in
     let all = rw numbers at (sym c.with_taken-input.ensures ∙ c.in-Ok.is) in
     numbers_fine _ c.examine.result (taken_fine c.lent_hints-taken.result _ (fine_told _ (sym (taken_tells c.lent_hints-taken.result _) ∙ all)))
 

@@ -21,7 +21,7 @@ asked : (c : In-Ok) →
     with_numbers (is_budget a.budget) (table_examined a.packed a.p a.agent os) ≡ Ok tt
 asked c =
     rw (c.is_budget.ensures, c.examine.ensures)
-    at (fine_told _ (sym (numbers_mapped _ _ _ c.map_err-found.ensures.cases c.with_numbers-input.ensures) ∙ c.in-Ok.is))
+    at (fine_told _ (sym (numbers_mapped _ _ _ c.map_err-found.ensures.cases c.with_numbers_told-input.ensures) ∙ c.in-Ok.is))
 
 pub returns-then-is_brief : goal.returns-then-is_brief
 unfolding table_plan plan_of
@@ -38,7 +38,7 @@ plan_among-requires c =
 pub returns-in-Err : goal.returns-in-Err
 unfolding table_plan
 returns-in-Err c =
-    let told = numbers_mapped _ _ _ c.map_err-found.ensures.cases c.with_numbers-input.ensures in
+    let told = numbers_mapped _ _ _ c.map_err-found.ensures.cases c.with_numbers_told-input.ensures in
     let why = refused_told _ _ (sym told ∙ c.in-Err.is) in
     rw (
       ← c.is_budget.ensures,
